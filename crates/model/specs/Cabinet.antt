@@ -1,0 +1,35 @@
+-- The calls of *the cabinet's C program*, on a board image held as bytes. Document 01, 'What each call turns away', its last paragraph.
+use mathlib.Core.Bool.{not}
+use mathlib.Core.List.{List, [], _∷_, _++_}
+use Prim.Native.Nat.{ℕ, _%_}
+use lib.ListN.{length}
+use lib.Dec.{eqb}
+use lib.IntN.{ℤ}
+use Rattle.model.specs.declared.Fault.the-variants.{WordCount}
+use Rattle.model.specs.declared.Answer.{Answer}
+use Rattle.model.specs.Words.{wordsOf}
+use Rattle.model.specs.Layout.{Layout}
+use Rattle.model.specs.Board.{size}
+use Rattle.model.specs.Answers.{Faults, answered, unlessRefused, signed}
+use Rattle.model.specs.Calls.{boardFaults, fileFaults, readCount, readBuffer}
+
+module _ (g : Layout) (image : List ℕ) where
+  -- *A byte count that isn't a multiple of 8 is refused 1.*
+  unfoldable pub imageFaults : Faults
+  imageFaults = (WordCount, not (eqb (length image % 8) 0)) ∷ []
+
+  unfoldable pub imageCheck : ℤ
+  imageCheck = signed (answered (imageFaults ++ boardFaults g (wordsOf image)) 0)
+
+  unfoldable pub imageSize : ℕ → ℤ
+  imageSize f = signed (answered (imageFaults ++ fileFaults g (wordsOf image) f) (size g (wordsOf image) f))
+
+  unfoldable pub imageReadAnswer : ℕ → ℕ → List ℕ → Answer
+  imageReadAnswer f o out = answered (imageFaults ++ fileFaults g (wordsOf image) f) (readCount g (wordsOf image) f o out)
+
+  unfoldable pub imageRead : ℕ → ℕ → List ℕ → ℤ
+  imageRead f o out = signed (imageReadAnswer f o out)
+
+  -- the buffer at exit
+  unfoldable pub imageReadBuffer : ℕ → ℕ → List ℕ → List ℕ
+  imageReadBuffer f o out = unlessRefused (imageReadAnswer f o out) (readBuffer g (wordsOf image) f o out) out

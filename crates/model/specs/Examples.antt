@@ -1,0 +1,131 @@
+-- The marked set of document 01's bench examples as one table. proofs/Marked.antt proves that every row holds.
+use mathlib.Core.Bool.{Bool, true, false, _&&_}
+use mathlib.Core.List.{List, [], _∷_, _++_}
+use Prim.Native.Nat.{ℕ, zero, suc, _*_}
+use lib.ListN.{length, drop, replicate}
+use lib.Dec.{eqb}
+use Rattle.model.specs.declared.Fault.the-variants.{FreeBlocks, PlanLength}
+use Rattle.model.specs.declared.Answer.{Answer}
+use Rattle.model.specs.declared.Answer.the-variants.{Done, Refused}
+use Rattle.model.specs.Lists.{all}
+use Rattle.model.specs.Layout.{house}
+use Rattle.model.specs.Board.{contents}
+use Rattle.model.specs.Answers.{number, counted}
+use Rattle.model.specs.Change.{Plan, writePlan}
+use Rattle.model.specs.Calls.{freeCountAnswer, Planned, lowest, write, setLength, format, performBoard}
+
+-- ---- Calls, and what is seen of one
+
+-- a call on file 0
+pub data Call : Type 0 where
+  formats countsFree : Call
+  writes : ℕ → List ℕ → Call
+  setsLength : ℕ → Call
+
+pub data Seen : Type 0 where
+  -- the answer
+  answers : Answer → Seen
+  -- the plan's words; the words past it stay
+  plans : List ℕ → Seen
+  -- how many fresh blocks the plan takes
+  takes : ℕ → Seen
+  -- once the plan is performed: the free count, and what the file reads as
+  leavesFree : ℕ → Seen
+  reads : List ℕ → Seen
+
+-- a row: a formatted board of so many blocks, the calls performed on it first, the call with so many words for its plan, and what is seen
+pub record Row : Type 0 where
+  pub blocksOf : ℕ
+  pub first : List Call
+  pub call : Call
+  pub room : ℕ
+  pub seenThen : List Seen
+
+-- ---- What a row says
+
+unfoldable pub plannedOf : List ℕ → Call → List ℕ → Planned
+plannedOf b formats slice = format house b slice
+plannedOf b countsFree slice = record { answer = freeCountAnswer house b; slice = slice }
+plannedOf b (writes o new) slice = write house b 0 o new slice
+plannedOf b (setsLength n) slice = setLength house b 0 n slice
+
+unfoldable pub takenBy : List ℕ → Call → ℕ
+takenBy b formats = 0
+takenBy b countsFree = 0
+takenBy b (writes o new) = writePlan house (lowest house b) b 0 o new .taken
+takenBy b (setsLength n) = 0
+
+-- the slice lent has words of its own
+unfoldable pub slack : ℕ → List ℕ
+slack room = replicate room 7
+
+-- the board with a call's whole plan performed
+unfoldable pub ran : List ℕ → Call → ℕ → List ℕ
+ran b c room = let p : Planned = plannedOf b c (slack room) in performBoard house b (p .slice) (counted (p .answer))
+
+unfoldable pub ranAll : List Call → List ℕ → List ℕ
+ranAll [] b = b
+ranAll (c ∷ cs) b = ranAll cs (ran b c 200)
+
+-- a formatted board, words of its own before
+unfoldable pub boardOf : Row → List ℕ
+boardOf r = ranAll (formats ∷ r .first) (replicate (8 * r .blocksOf) 7)
+
+unfoldable pub sameList : List ℕ → List ℕ → Bool
+sameList [] [] = true
+sameList [] (y ∷ ys) = false
+sameList (x ∷ xs) [] = false
+sameList (x ∷ xs) (y ∷ ys) = eqb x y && sameList xs ys
+
+unfoldable pub sameAnswer : Answer → Answer → Bool
+sameAnswer (Done m) (Done n) = eqb m n
+sameAnswer (Done m) (Refused f) = false
+sameAnswer (Refused e) (Done n) = false
+sameAnswer (Refused e) (Refused f) = eqb (number e) (number f)
+
+unfoldable pub saw : List ℕ → Call → ℕ → Seen → Bool
+saw b c room (answers a) = sameAnswer (plannedOf b c (slack room) .answer) a
+saw b c room (plans ws) = sameList (plannedOf b c (slack room) .slice) (ws ++ drop (length ws) (slack room))
+saw b c room (takes n) = eqb (takenBy b c) n
+saw b c room (leavesFree n) = sameAnswer (freeCountAnswer house (ran b c room)) (Done n)
+saw b c room (reads bytes) = sameList (contents house (ran b c room) 0) bytes
+
+unfoldable pub holds : Row → Bool
+holds r = all (saw (boardOf r) (r .call) (r .room)) (r .seenThen)
+
+-- ---- The table
+
+unfoldable pub row : List Call → Call → ℕ → List Seen → Row
+row cs c room seens = record { blocksOf = 16; first = cs; call = c; room = room; seenThen = seens }
+
+unfoldable pub fence : ℕ
+fence = 18446744073709551615
+
+-- block k with the words ws
+unfoldable pub filled : ℕ → List ℕ → List ℕ
+filled a [] = []
+filled a (w ∷ ws) = a ∷ w ∷ filled (suc a) ws
+
+unfoldable pub E2 : Call
+E2 = writes 0 (65 ∷ 66 ∷ [])
+
+unfoldable pub E2-plan : List ℕ
+E2-plan = filled 80 (16961 ∷ replicate 7 0) ++ (16 ∷ 80 ∷ fence ∷ 0 ∷ 17 ∷ 2 ∷ [])
+
+unfoldable pub table : List Row
+table = row [] countsFree 0 (answers (Done 5) ∷ [])
+    ∷ record { blocksOf = 1024; first = []; call = countsFree; room = 0; seenThen = answers (Done 1013) ∷ [] }
+    ∷ row [] E2 22 (answers (Done 11) ∷ plans E2-plan ∷ leavesFree 4 ∷ reads (65 ∷ 66 ∷ []) ∷ [])
+    ∷ row [] E2 21 (answers (Refused PlanLength) ∷ plans [] ∷ [])
+    ∷ row (E2 ∷ []) (writes 0 (90 ∷ [])) 4 (answers (Done 1) ∷ plans (80 ∷ 16986 ∷ []) ∷ reads (90 ∷ 66 ∷ []) ∷ [])
+    ∷ row (E2 ∷ []) (writes 1 (67 ∷ 68 ∷ [])) 40
+    (answers (Done 18) ∷ plans (filled 88 (4473665 ∷ replicate 7 0) ++ filled 96 (88 ∷ 3 ∷ replicate 6 0) ++ (fence ∷ 0 ∷ 8 ∷ 96 ∷ [])) ∷ leavesFree 4 ∷ reads (65 ∷ 67 ∷ 68 ∷ []) ∷ [])
+    ∷ row (E2 ∷ []) (setsLength 0) 4 (answers (Done 1) ∷ plans (17 ∷ 0 ∷ []) ∷ leavesFree 5 ∷ reads [] ∷ [])
+    ∷ row (E2 ∷ setsLength 0 ∷ []) (setsLength 1) 8 (answers (Done 3) ∷ plans (16 ∷ 0 ∷ fence ∷ 0 ∷ 17 ∷ 1 ∷ []) ∷ reads (0 ∷ []) ∷ [])
+    ∷ row (E2 ∷ []) (setsLength 10) 8 (answers (Done 4) ∷ plans (80 ∷ 16961 ∷ 81 ∷ 0 ∷ fence ∷ 0 ∷ 17 ∷ 10 ∷ []) ∷ reads (65 ∷ 66 ∷ replicate 8 0) ∷ [])
+    ∷ row (E2 ∷ setsLength 100 ∷ []) (writes 99 (7 ∷ [])) 50
+    (answers (Done 21) ∷ plans (filled 88 (80 ∷ replicate 7 0) ++ (fence ∷ 0 ∷ 16 ∷ 89 ∷ fence ∷ 0 ∷ [])
+    ++ filled 96 (0 ∷ 0 ∷ 0 ∷ 0 ∷ 117440512 ∷ 0 ∷ 0 ∷ 0 ∷ []) ++ (fence ∷ 0 ∷ 89 ∷ 96 ∷ [])) ∷ reads (65 ∷ 66 ∷ (replicate 97 0 ++ (7 ∷ []))) ∷ [])
+    ∷ row [] (writes 0 (replicate 256 1)) 100 (takes 5 ∷ answers (Done 43) ∷ leavesFree 0 ∷ reads (replicate 256 1) ∷ [])
+    ∷ row [] (writes 0 (replicate 257 1)) 100 (takes 6 ∷ answers (Refused FreeBlocks) ∷ plans [] ∷ leavesFree 5 ∷ reads [] ∷ [])
+    ∷ []

@@ -1,0 +1,70 @@
+-- Fresh blocks. A page is what a fresh block holds, by the word; the pages of a change are listed in the order in which their blocks
+-- are taken: *those beneath a block before it, left to right*. Which block is taken i-th is a parameter, `fresh`, and c counts those
+-- taken before: page i of a list goes to block fresh (c + i).
+use mathlib.Core.Bool.{Bool, true, false, cond, _&&_}
+use mathlib.Core.List.{List, [], _∷_, _++_}
+use Prim.Native.Nat.{ℕ, zero, suc, _+_, _-_, _*_, _/_, _%_, min}
+use lib.ListN.{length, getD, take, drop}
+use lib.Dec.{leb, ltb}
+use Rattle.model.specs.Lists.{tabulate, joined, sum, choose}
+use Rattle.model.specs.Words.{byteOf, wordOf}
+use Rattle.model.specs.Tree.{seen, span, cell, link}
+use Rattle.model.specs.Store.{Store, store}
+
+abbrev pub Page : Type 0
+Page = ℕ → ℕ
+
+-- byte i where `new` is written at o and `old` stood before
+unfoldable pub splice : ℕ → List ℕ → ℕ → ℕ → ℕ
+splice o new old i = cond (leb o i && ltb i (o + length new)) (getD new (i - o) 0) old
+
+-- of the bytes written at o, those that fall under child j, each child spanning s bytes: *only the part of the caller's bytes that
+-- starts at its own offset*, which is o - j * s; and of l bytes how many
+unfoldable pub part : ℕ → ℕ → ℕ → List ℕ → List ℕ
+part s j o new = take (s - (o - j * s)) (drop (j * s - o) new)
+
+unfoldable pub partLength : ℕ → ℕ → ℕ → ℕ → ℕ
+partLength s j o l = min (s - (o - j * s)) (l - (j * s - o))
+
+module _ (W : ℕ) where
+  -- how many fresh blocks the paths to l bytes written at o take
+  unfoldable pub need : ℕ → ℕ → ℕ → ℕ
+  need zero o zero = 0
+  need zero o (suc l) = 1
+  need (suc h) o zero = 0
+  need (suc h) o (suc l) = suc (sum W (λ j. need h (o - j * span W h) (partLength (span W h) j o (suc l))))
+
+  -- how many of them lie under the children before j
+  unfoldable pub needBefore : ℕ → ℕ → ℕ → ℕ → ℕ
+  needBefore h o l j = sum j (λ i. need h (o - i * span W h) (partLength (span W h) i o l))
+
+  -- word j of the data block k, of which n bytes lie below the size, with `new` written at o. *A fresh file block holds what is
+  -- visible: bytes at or past the new size are 0*
+  unfoldable pub dataPage : List ℕ → ℕ → ℕ → ℕ → List ℕ → Page
+  dataPage b k n o new j = wordOf 8 (λ i. splice o new (seen (n - (8 * j + i)) (byteOf (link W b k j) i)) (8 * j + i))
+
+  module _ (fresh : ℕ → ℕ) where
+    -- *A plan lists them as taken, eight stores each in word order*
+    unfoldable pub stored : List Page → ℕ → List Store
+    stored [] c = []
+    stored (p ∷ ps) c = tabulate W (λ j. store (W * fresh c + j) (p j)) ++ stored ps (suc c)
+
+    -- the pointer to a fresh tree of height h for l bytes at o: its last block
+    unfoldable pub freshPointer : ℕ → ℕ → ℕ → ℕ → ℕ
+    freshPointer h o l c = W * fresh (c + need h o l - 1)
+
+    module _ (b : List ℕ) where
+      -- word j of the pointer block k over trees of height h, with l bytes written at o: fresh where they lead to written bytes, else
+      -- as visible: *pointers at or past the new size are 0*
+      unfoldable pub pointerPage : ℕ → ℕ → ℕ → ℕ → ℕ → ℕ → Page
+      pointerPage h k n o l c j = choose (partLength (span W h) j o l) (seen (n - j * span W h) (link W b k j))
+          (freshPointer h (o - j * span W h) (partLength (span W h) j o l) (c + needBefore h o l j))
+
+      -- the pages of the tree (h, k, n) with `new` written at o: fresh blocks *on all paths to written bytes*
+      unfoldable pub build : ℕ → ℕ → ℕ → ℕ → List ℕ → ℕ → List Page
+      build zero k n o [] c = []
+      build zero k n o (x ∷ new) c = dataPage b k n o (x ∷ new) ∷ []
+      build (suc h) k n o [] c = []
+      build (suc h) k n o (x ∷ new) c = joined W (λ j. build h (link W b k j / W) (n - j * span W h) (o - j * span W h) (part (span W h) j o (x ∷ new))
+          (c + needBefore h o (suc (length new)) j))
+          ++ (pointerPage h k n o (suc (length new)) c ∷ [])

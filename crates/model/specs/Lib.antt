@@ -1,0 +1,16 @@
+pub mod Lists
+pub mod Words
+pub mod Layout
+pub mod Tree
+pub mod Board
+pub mod Answers
+pub mod Store
+pub mod Hidden
+pub mod Fresh
+pub mod Change
+pub mod Format
+pub mod Calls
+pub mod Cut
+pub mod Cabinet
+pub mod Lister
+pub mod Examples

@@ -1,0 +1,37 @@
+// Types that contracts and code share. What they mean is defined in specs/.
+
+// Why a call is refused. specs/Answers.antt has each fault's number.
+pub enum Fault {
+    // 1: the board's word count
+    WordCount,
+    // 2: a word of the trailer
+    Trailer,
+    // 3: any other reason not to be accepted
+    Damaged,
+    // 4: the file number
+    FileNumber,
+    // 5: a write's offset past the size
+    Offset,
+    // 6: an end past the greatest size
+    End,
+    // 7: too few free blocks
+    FreeBlocks,
+    // 8: a plan slice that is too short
+    PlanLength,
+    // 9: more pairs than the plan's words hold
+    PairCount,
+    // 10: an address off the board
+    Address,
+}
+
+// What a call answers: done, with a number, or refused.
+pub enum Answer {
+    Done(u64),
+    Refused(Fault),
+}
+
+// Where the walk to a byte ends.
+pub enum WalkEnd {
+    Block(u64),
+    Hole,
+}
