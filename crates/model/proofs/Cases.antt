@@ -1,13 +1,13 @@
 -- Cases on numbers and tests, and laws of the loops of specs/Lists.antt.
-use mathlib.Core.Path.{_≡_, refl, ap, ap₂, subst, _∙_}
+use mathlib.Core.Path.{_≡_, refl, ap, ap₂}
 use mathlib.Core.Logic.{_≢_, _⊎_, inl, inr}
-use mathlib.Core.Bool.{Bool, true, false, not, _&&_}
-use mathlib.Core.List.{List, [], _∷_, _++_}
-use Prim.Native.Nat.{ℕ, zero, suc, _+_, _≤_, _<_}
+use mathlib.Core.Bool.{Bool, true, false, _&&_}
+use mathlib.Core.List.{List, [], _∷_}
+use Prim.Native.Nat.{ℕ, zero, suc, _≤_, _<_}
 use native.Mathlib.Omega.{arith}
 use lib.Dec.{T, leb, eqb}
 use borrow.Author.Tests.{leb-true, leb-false, eqb-true, eqb-false}
-use Rattle.model.specs.Lists.{every}
+use Rattle.model.specs.Lists.{tabulate, joined, every}
 
 pub split : (a b : ℕ) → (a ≤ b) ⊎ (b < a)
 split a b = go (leb a b) refl
@@ -23,6 +23,14 @@ decide a b = go (eqb a b) refl
     go true e = inl (eqb-true a b e)
     go false e = inr (eqb-false a b e)
 
+pub and-left : (s t : Bool) → T (s && t) → T s
+and-left true t h = tt
+and-left false t h = h
+
+pub and-right : (s t : Bool) → T (s && t) → T t
+and-right true t h = h
+and-right false t h = absurd h
+
 pub and-both : (s t : Bool) → T s → T t → T (s && t)
 and-both true t h g = g
 and-both false t h g = h
@@ -31,3 +39,14 @@ pub every-all : (m : ℕ) (p : ℕ → Bool) → ((j : ℕ) → j < m → T (p j
 unfolding every
 every-all zero p f = tt
 every-all (suc m) p f = and-both (every m p) (p m) (every-all m p (λ j h. f j (omega arith))) (f m (omega arith))
+
+module _ {A : Type 0} where
+  pub tabulate-cong : (m : ℕ) (f g : ℕ → A) → ((j : ℕ) → j < m → f j ≡ g j) → tabulate m f ≡ tabulate m g
+  unfolding tabulate
+  tabulate-cong zero f g e = refl
+  tabulate-cong (suc m) f g e = ap₂ _++_ (tabulate-cong m f g (λ j h. e j (omega arith))) (ap (λ (x : A). x ∷ []) (e m (omega arith)))
+
+  pub joined-none : (m : ℕ) (f : ℕ → List A) → ((j : ℕ) → j < m → f j ≡ []) → joined m f ≡ []
+  unfolding joined
+  joined-none zero f e = refl
+  joined-none (suc m) f e = ap₂ _++_ (joined-none m f (λ j h. e j (omega arith))) (e m (omega arith))

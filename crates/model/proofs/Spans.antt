@@ -1,10 +1,10 @@
 -- Span facts, with the words per block, W, as a parameter.
-use mathlib.Core.Path.{_≡_, refl, sym, ap, _∙_}
-use mathlib.Core.Logic.{_⊎_, inl, inr}
+use mathlib.Core.Path.{_≡_, refl}
+use mathlib.Core.Logic.{inl, inr}
 use mathlib.Core.List.{List}
 use Prim.Native.Nat.{ℕ, zero, suc, _+_, _-_, _*_, _/_, _%_, _^_, _≤_, _<_}
 use native.Mathlib.Omega.{arith}
-use native.Mathlib.Nat.{pow-zero, pow-succ', mul-one, mul-left-comm, mul-pos, mul-comm, mul-le-mul-right, mod-lt, div-lt-iff-lt-mul, div-add-mod'}
+use native.Mathlib.Nat.{pow-zero, pow-succ', mul-one, mul-left-comm, mul-pos, mul-le-mul-right, mod-lt, div-lt-iff-lt-mul, div-add-mod'}
 use lib.Arith.{le-zero, digits-lt, digits-div, digits-mod}
 use borrow.Author.Tests.{le-leb, lt-leb}
 use Rattle.model.specs.Layout.{house}
@@ -50,7 +50,7 @@ module _ (W : ℕ) (pos : 0 < W) where
   child h i l = record {
     which = div-lt-iff-lt-mul (span-pos h) .1 l;
     inside = mod-lt i (span-pos h);
-    there = div-add-mod' i (span W h)
+    there = div-add-mod' i (span W h);
   }
 
   -- and no other child has the byte

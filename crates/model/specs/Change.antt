@@ -10,17 +10,17 @@ use Rattle.model.specs.Lists.{tabulate, joined, sum, concat, choose}
 use Rattle.model.specs.Words.{byteOf, wordOf}
 use Rattle.model.specs.Layout.{Layout}
 use Rattle.model.specs.Tree.{ending, live, span, least, cell, link}
-use Rattle.model.specs.Board.{inodeBlock, leaf, root, rootAddress, size, sizeAddress, walkTo, free}
+use Rattle.model.specs.Board.{inodeBlock, leaf, root, rootAddress, size, sizeAddress, walkTo}
 use Rattle.model.specs.Store.{Store, store, performed, fenced}
 use Rattle.model.specs.Fresh.{Page, splice, part, partLength, need, stored, freshPointer, dataPage, build}
 
 -- Every way of planning is one or two steps: an epoch of hidden stores, if there are any, then one store, the commit, in an epoch of its own.
 pub record Step : Type 0 where
-  pub shadow : List Store
+  pub hidden : List Store
   pub commit : Store
 
 unfoldable pub step : List Store → ℕ → ℕ → Step
-step ss a v = record { shadow = ss; commit = store a v }
+step ss a v = record { hidden = ss; commit = store a v }
 
 unfoldable pub stepEpochs : List Store → Store → List (List Store)
 stepEpochs [] c = (c ∷ []) ∷ []
@@ -28,7 +28,7 @@ stepEpochs (s ∷ ss) c = (s ∷ ss) ∷ (c ∷ []) ∷ []
 
 unfoldable pub planEpochs : List Step → List (List Store)
 planEpochs [] = []
-planEpochs (p ∷ ps) = stepEpochs (p .shadow) (p .commit) ++ planEpochs ps
+planEpochs (p ∷ ps) = stepEpochs (p .hidden) (p .commit) ++ planEpochs ps
 
 -- a plan's steps, and how many fresh blocks it takes
 pub record Plan : Type 0 where

@@ -1,7 +1,7 @@
 -- The marked set of document 01's bench examples as one table. proofs/Marked.antt proves that every row holds.
 use mathlib.Core.Bool.{Bool, true, false, _&&_}
 use mathlib.Core.List.{List, [], _∷_, _++_}
-use Prim.Native.Nat.{ℕ, zero, suc, _*_}
+use Prim.Native.Nat.{ℕ, suc, _*_}
 use lib.ListN.{length, drop, replicate}
 use lib.Dec.{eqb}
 use Rattle.model.specs.declared.Fault.the-variants.{FreeBlocks, PlanLength}
@@ -11,7 +11,7 @@ use Rattle.model.specs.Lists.{all}
 use Rattle.model.specs.Layout.{house}
 use Rattle.model.specs.Board.{contents}
 use Rattle.model.specs.Answers.{number, counted}
-use Rattle.model.specs.Change.{Plan, writePlan}
+use Rattle.model.specs.Change.{writePlan}
 use Rattle.model.specs.Calls.{freeCountAnswer, Planned, lowest, write, setLength, format, performBoard}
 
 -- ---- Calls, and what is seen of one
@@ -95,13 +95,15 @@ holds r = all (saw (boardOf r) (r .call) (r .room)) (r .seenThen)
 
 -- ---- The table
 
+-- a row on 16 blocks
 unfoldable pub row : List Call → Call → ℕ → List Seen → Row
 row cs c room seens = record { blocksOf = 16; first = cs; call = c; room = room; seenThen = seens }
 
-unfoldable pub fence : ℕ
-fence = 18446744073709551615
+-- a barrier's two words
+unfoldable pub fence : List ℕ
+fence = 18446744073709551615 ∷ 0 ∷ []
 
--- block k with the words ws
+-- the pairs that store ws from address a on
 unfoldable pub filled : ℕ → List ℕ → List ℕ
 filled a [] = []
 filled a (w ∷ ws) = a ∷ w ∷ filled (suc a) ws
@@ -110,22 +112,49 @@ unfoldable pub E2 : Call
 E2 = writes 0 (65 ∷ 66 ∷ [])
 
 unfoldable pub E2-plan : List ℕ
-E2-plan = filled 80 (16961 ∷ replicate 7 0) ++ (16 ∷ 80 ∷ fence ∷ 0 ∷ 17 ∷ 2 ∷ [])
+E2-plan = filled 80 (16961 ∷ replicate 7 0) ++ (16 ∷ 80 ∷ []) ++ fence ++ (17 ∷ 2 ∷ [])
 
-unfoldable pub table : List Row
-table = row [] countsFree 0 (answers (Done 5) ∷ [])
+unfoldable pub E4-plan : List ℕ
+E4-plan = filled 88 (4473665 ∷ replicate 7 0) ++ filled 96 (88 ∷ 3 ∷ replicate 6 0) ++ fence ++ (8 ∷ 96 ∷ [])
+
+unfoldable pub E8-plan : List ℕ
+E8-plan = filled 88 (80 ∷ replicate 7 0) ++ fence ++ (16 ∷ 89 ∷ []) ++ fence
+    ++ filled 96 (replicate 4 0 ++ (117440512 ∷ replicate 3 0)) ++ fence ++ (89 ∷ 96 ∷ [])
+
+unfoldable pub E1-rows : List Row
+E1-rows = row [] countsFree 0 (answers (Done 5) ∷ [])
     ∷ record { blocksOf = 1024; first = []; call = countsFree; room = 0; seenThen = answers (Done 1013) ∷ [] }
-    ∷ row [] E2 22 (answers (Done 11) ∷ plans E2-plan ∷ leavesFree 4 ∷ reads (65 ∷ 66 ∷ []) ∷ [])
+    ∷ []
+
+unfoldable pub E2-rows : List Row
+E2-rows = row [] E2 22 (answers (Done 11) ∷ plans E2-plan ∷ leavesFree 4 ∷ reads (65 ∷ 66 ∷ []) ∷ [])
     ∷ row [] E2 21 (answers (Refused PlanLength) ∷ plans [] ∷ [])
-    ∷ row (E2 ∷ []) (writes 0 (90 ∷ [])) 4 (answers (Done 1) ∷ plans (80 ∷ 16986 ∷ []) ∷ reads (90 ∷ 66 ∷ []) ∷ [])
-    ∷ row (E2 ∷ []) (writes 1 (67 ∷ 68 ∷ [])) 40
-    (answers (Done 18) ∷ plans (filled 88 (4473665 ∷ replicate 7 0) ++ filled 96 (88 ∷ 3 ∷ replicate 6 0) ++ (fence ∷ 0 ∷ 8 ∷ 96 ∷ [])) ∷ leavesFree 4 ∷ reads (65 ∷ 67 ∷ 68 ∷ []) ∷ [])
-    ∷ row (E2 ∷ []) (setsLength 0) 4 (answers (Done 1) ∷ plans (17 ∷ 0 ∷ []) ∷ leavesFree 5 ∷ reads [] ∷ [])
-    ∷ row (E2 ∷ setsLength 0 ∷ []) (setsLength 1) 8 (answers (Done 3) ∷ plans (16 ∷ 0 ∷ fence ∷ 0 ∷ 17 ∷ 1 ∷ []) ∷ reads (0 ∷ []) ∷ [])
-    ∷ row (E2 ∷ []) (setsLength 10) 8 (answers (Done 4) ∷ plans (80 ∷ 16961 ∷ 81 ∷ 0 ∷ fence ∷ 0 ∷ 17 ∷ 10 ∷ []) ∷ reads (65 ∷ 66 ∷ replicate 8 0) ∷ [])
-    ∷ row (E2 ∷ setsLength 100 ∷ []) (writes 99 (7 ∷ [])) 50
-    (answers (Done 21) ∷ plans (filled 88 (80 ∷ replicate 7 0) ++ (fence ∷ 0 ∷ 16 ∷ 89 ∷ fence ∷ 0 ∷ [])
-    ++ filled 96 (0 ∷ 0 ∷ 0 ∷ 0 ∷ 117440512 ∷ 0 ∷ 0 ∷ 0 ∷ []) ++ (fence ∷ 0 ∷ 89 ∷ 96 ∷ [])) ∷ reads (65 ∷ 66 ∷ (replicate 97 0 ++ (7 ∷ []))) ∷ [])
-    ∷ row [] (writes 0 (replicate 256 1)) 100 (takes 5 ∷ answers (Done 43) ∷ leavesFree 0 ∷ reads (replicate 256 1) ∷ [])
+    ∷ []
+
+unfoldable pub E3-row : Row
+E3-row = row (E2 ∷ []) (writes 0 (90 ∷ [])) 4 (answers (Done 1) ∷ plans (80 ∷ 16986 ∷ []) ∷ reads (90 ∷ 66 ∷ []) ∷ [])
+
+unfoldable pub E4-row : Row
+E4-row = row (E2 ∷ []) (writes 1 (67 ∷ 68 ∷ [])) 40 (answers (Done 18) ∷ plans E4-plan ∷ leavesFree 4 ∷ reads (65 ∷ 67 ∷ 68 ∷ []) ∷ [])
+
+unfoldable pub E5-row : Row
+E5-row = row (E2 ∷ []) (setsLength 0) 4 (answers (Done 1) ∷ plans (17 ∷ 0 ∷ []) ∷ leavesFree 5 ∷ reads [] ∷ [])
+
+unfoldable pub E6-row : Row
+E6-row = row (E2 ∷ setsLength 0 ∷ []) (setsLength 1) 8 (answers (Done 3) ∷ plans ((16 ∷ 0 ∷ []) ++ fence ++ (17 ∷ 1 ∷ [])) ∷ reads (0 ∷ []) ∷ [])
+
+unfoldable pub E7-row : Row
+E7-row = row (E2 ∷ []) (setsLength 10) 8
+    (answers (Done 4) ∷ plans ((80 ∷ 16961 ∷ 81 ∷ 0 ∷ []) ++ fence ++ (17 ∷ 10 ∷ [])) ∷ reads (65 ∷ 66 ∷ replicate 8 0) ∷ [])
+
+unfoldable pub E8-row : Row
+E8-row = row (E2 ∷ setsLength 100 ∷ []) (writes 99 (7 ∷ [])) 50
+    (answers (Done 21) ∷ plans E8-plan ∷ reads ((65 ∷ 66 ∷ replicate 97 0) ++ (7 ∷ [])) ∷ [])
+
+unfoldable pub E9-rows : List Row
+E9-rows = row [] (writes 0 (replicate 256 1)) 100 (takes 5 ∷ answers (Done 43) ∷ leavesFree 0 ∷ reads (replicate 256 1) ∷ [])
     ∷ row [] (writes 0 (replicate 257 1)) 100 (takes 6 ∷ answers (Refused FreeBlocks) ∷ plans [] ∷ leavesFree 5 ∷ reads [] ∷ [])
     ∷ []
+
+unfoldable pub table : List Row
+table = E1-rows ++ E2-rows ++ (E3-row ∷ E4-row ∷ E5-row ∷ E6-row ∷ E7-row ∷ E8-row ∷ []) ++ E9-rows

@@ -1,7 +1,7 @@
 -- Format. Document 01, 'How a change is planned', its last paragraph.
 use mathlib.Core.Bool.{cond}
 use mathlib.Core.List.{List, [], _∷_, _++_}
-use Prim.Native.Nat.{ℕ, zero, suc, _+_, _-_, _*_}
+use Prim.Native.Nat.{ℕ, suc, _+_, _-_, _*_}
 use lib.ListN.{replicate}
 use lib.Dec.{ltb}
 use Rattle.model.specs.Lists.{tabulate}

@@ -1,14 +1,14 @@
 -- Fresh blocks. A page is what a fresh block holds, by the word; the pages of a change are listed in the order in which their blocks
 -- are taken: *those beneath a block before it, left to right*. Which block is taken i-th is a parameter, `fresh`, and c counts those
 -- taken before: page i of a list goes to block fresh (c + i).
-use mathlib.Core.Bool.{Bool, true, false, cond, _&&_}
+use mathlib.Core.Bool.{cond, _&&_}
 use mathlib.Core.List.{List, [], _∷_, _++_}
-use Prim.Native.Nat.{ℕ, zero, suc, _+_, _-_, _*_, _/_, _%_, min}
+use Prim.Native.Nat.{ℕ, zero, suc, _+_, _-_, _*_, _/_, min}
 use lib.ListN.{length, getD, take, drop}
 use lib.Dec.{leb, ltb}
 use Rattle.model.specs.Lists.{tabulate, joined, sum, choose}
 use Rattle.model.specs.Words.{byteOf, wordOf}
-use Rattle.model.specs.Tree.{seen, span, cell, link}
+use Rattle.model.specs.Tree.{seen, span, link}
 use Rattle.model.specs.Store.{Store, store}
 
 abbrev pub Page : Type 0

@@ -1,10 +1,10 @@
 -- Hidden stores. Document 01: *A hidden store is one to a free block, to a live data block without altering bytes below the size,
 -- to a file's pointer (no inode pointer) that isn't live in a live block, or to the root of a file of size 0.*
-use mathlib.Core.Bool.{Bool, true, false, not, _&&_, _||_}
+use mathlib.Core.Bool.{Bool, false, not, _&&_, _||_}
 use mathlib.Core.List.{List}
 use Prim.Native.Nat.{ℕ, zero, suc, _+_, _-_, _*_, _/_, _%_}
 use lib.ListN.{getD}
-use lib.Dec.{leb, ltb, eqb}
+use lib.Dec.{leb, eqb}
 use Rattle.model.specs.Lists.{every, some, member}
 use Rattle.model.specs.Words.{byteOf}
 use Rattle.model.specs.Layout.{Layout, files}

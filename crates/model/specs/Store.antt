@@ -1,8 +1,8 @@
 -- Stores, barriers, epochs, and plans in words. Document 01, 'How a change is planned', its first paragraph.
-use mathlib.Core.Bool.{Bool, true, false, not, cond}
+use mathlib.Core.Bool.{Bool, not, cond}
 use mathlib.Core.List.{List, [], _∷_, _++_}
-use Prim.Native.Nat.{ℕ, zero, suc, _+_, _-_, _*_, _^_}
-use lib.ListN.{length, set, take}
+use Prim.Native.Nat.{ℕ, _-_, _*_, _^_}
+use lib.ListN.{set}
 use lib.Seq.{sets}
 use lib.Dec.{eqb}
 use Rattle.model.specs.Lists.{filter}

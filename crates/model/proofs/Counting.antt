@@ -1,0 +1,72 @@
+-- Counting how often a number occurs. 'No block is reached twice' is that none occurs more than once; counts add up over lists and loops.
+use mathlib.Core.Path.{_≡_, refl, sym}
+use mathlib.Core.Logic.{_≢_, inl, inr}
+use mathlib.Core.Bool.{true, false, not}
+use mathlib.Core.List.{List, [], _∷_, _++_}
+use Prim.Native.Nat.{ℕ, zero, suc, _+_, _≤_, _<_}
+use native.Mathlib.Omega.{arith}
+use native.Mathlib.Nat.{zero-add}
+use lib.Dec.{T, eqb}
+use borrow.Author.Tests.{eq-eqb, ne-eqb}
+use Rattle.model.specs.Lists.{tabulate, sum, member, distinct}
+use Rattle.model.proofs.Cases.{decide, and-both}
+
+-- 1 where the two are equal, else 0
+unfoldable pub one : ℕ → ℕ → ℕ
+one q x = elim (eqb q x) [ true ↦ 1 | false ↦ 0 ]
+
+-- how often q occurs
+unfoldable pub occ : ℕ → List ℕ → ℕ
+occ q [] = 0
+occ q (x ∷ xs) = one q x + occ q xs
+
+pub one-same : (q : ℕ) → one q q ≡ 1
+unfolding one
+one-same q = rw (eq-eqb q q refl, one)
+
+pub one-other : (q x : ℕ) → q ≢ x → one q x ≡ 0
+unfolding one
+one-other q x h = rw (ne-eqb q x h, one)
+
+pub occ-append : (q : ℕ) (l r : List ℕ) → occ q (l ++ r) ≡ occ q l + occ q r
+unfolding occ
+occ-append q [] r = sym (zero-add (occ q r))
+occ-append q (x ∷ xs) r = omega (arith, occ-append q xs r)
+
+pub occ-tabulate : (q n : ℕ) (f : ℕ → ℕ) → occ q (tabulate n f) ≡ sum n (λ j. one q (f j))
+unfolding tabulate sum occ
+occ-tabulate q zero f = refl
+occ-tabulate q (suc n) f = omega (arith, occ-tabulate q n f, occ-append q (tabulate n f) (f n ∷ []))
+
+pub member-none : (q : ℕ) (l : List ℕ) → occ q l ≡ 0 → member q l ≡ false
+unfolding member occ
+member-none q [] h = refl
+member-none q (x ∷ xs) h = elim (decide q x) [
+  | inl e ↦ absurd (omega (arith, one-same q, rw (← e) at h))
+  | inr n ↦ rw (ne-eqb q x n) (member-none q xs (omega (arith, one-other q x n)))
+]
+
+pub occ-distinct : (l : List ℕ) → ((q : ℕ) → occ q l ≤ 1) → T (distinct l)
+unfolding distinct occ
+occ-distinct [] h = tt
+occ-distinct (x ∷ xs) h =
+    and-both (not (member x xs)) (distinct xs) (rw (member-none x xs (omega (arith, h x, one-same x))) tt) (occ-distinct xs (λ q. omega (arith, h q)))
+
+-- numbers that rise by one from a: none occurs twice, and none below a occurs
+pub rising-below : (q a n : ℕ) → q < a → sum n (λ j. one q (a + j)) ≡ 0
+unfolding sum
+rising-below q a zero l = refl
+rising-below q a (suc n) l = omega (arith, rising-below q a n l, one-other q (a + n) (omega arith))
+
+pub rising-past : (q a n : ℕ) → a + n ≤ q → sum n (λ j. one q (a + j)) ≡ 0
+unfolding sum
+rising-past q a zero l = refl
+rising-past q a (suc n) l = omega (arith, rising-past q a n (omega arith), one-other q (a + n) (omega arith))
+
+pub rising-once : (q a n : ℕ) → sum n (λ j. one q (a + j)) ≤ 1
+unfolding sum
+rising-once q a zero = omega arith
+rising-once q a (suc n) = elim (decide q (a + n)) [
+  | inl e ↦ rw e (omega (arith, rising-past (a + n) a n (omega arith), one-same (a + n)))
+  | inr d ↦ omega (arith, rising-once q a n, one-other q (a + n) d)
+]
