@@ -16,9 +16,9 @@ use Rattle.model.specs.Tree.{cell, blocks}
 use Rattle.model.specs.Board.{rootBlocks, rootSound, trailerWord, greatest, blockCount, trailer, inodeBlock, inodePointer, leaf, rootAddress, sizeAddress, root, size, contents, fileBlocks, liveBlocks, inRange, wordCountSound, trailerSound, leafSound, fileSound, treesSound, accepted}
 use Rattle.model.specs.Store.{Store, store, barrier, performed, stores, fenced}
 use Rattle.model.specs.Fresh.{Page, stored}
-use Rattle.model.specs.Change.{plan, step, stepEpochs, planEpochs, pairs}
+use Rattle.model.specs.Plan.{plan, step, stepEpochs, planEpochs, pairs}
 use Rattle.model.specs.Format.{inodePage, formatPages, trailerAddress, trailerStores, formatPlan}
-use Rattle.model.specs.Cut.{Empty}
+use Rattle.model.specs.Claims.{Empty}
 use Rattle.model.proofs.Cases.{decide, and-left, and-right, and-both, every-all, tabulate-cong, joined-none}
 use Rattle.model.proofs.Counting.{occ, one-same, one-other, occ-append, occ-tabulate, occ-distinct, rising-below, rising-once}
 use Rattle.model.proofs.Perform.{All, Plain, all-append, all-tabulate, length-tabulate, length-performed, performed-append, performed-away, performed-tabulate, stores-fenced, address-block, block-on, blocks-differ, length-stored, stored-blocks, stored-cell}

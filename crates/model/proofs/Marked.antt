@@ -12,7 +12,9 @@ use Rattle.model.specs.Board.{rootWalk, rootBlocks, rootSound, trailerWo
 use Rattle.model.specs.Answers.{number, answered, unlessRefused, counted}
 use Rattle.model.specs.Store.{store, barrier, isBarrier, performed, stores, fenced, flat, paired, laid}
 use Rattle.model.specs.Fresh.{splice, part, partLength, need, needBefore, dataPage, stored, freshPointer, pointerPage, build}
-use Rattle.model.specs.Change.{step, stepEpochs, planEpochs, plan, pairs, afterwards, levelPage, levelBelow, levels, levelTop, splicedWord, atBlock, tailNeed, tailBefore, walkLive, tailPages, hooked, tailWords, inPlace, descend, growthTo, growth, singleWord, tail, isTail, shadowInside, leafPage, shadowWithLength, singleBlock, chosenWay, writePlan, cleared, lengthPlan}
+use Rattle.model.specs.Plan.{step, stepEpochs, planEpochs, plan, pairs, afterwards}
+use Rattle.model.specs.InPlace.{atBlock, tailNeed, tailBefore, walkLive, tailPages, tailWords, hooked, inPlace}
+use Rattle.model.specs.Change.{levelPage, levelBelow, levels, levelTop, growthTo, growth, splicedWord, singleBlock, singleWord, isTail, emptyTail, tail, descend, shadowInside, leafPage, shadowWithLength, chosenWay, writePlan, cleared, lengthPlan}
 use Rattle.model.specs.Format.{inodePage, formatPages, trailerAddress, trailerStores, formatPlan}
 use Rattle.model.specs.Calls.{wordCountFault, boardFaults, fileFaults, freeCountAnswer, planned, lowest, writeFaults, write, setLength, format, performFaults, performAnswer, performBoard}
 use Rattle.model.specs.Examples.{plannedOf, takenBy, slack, ran, ranAll, boardOf, sameList, sameAnswer, saw, holds, row, fence, filled, E2, E2-plan, E4-plan, E8-plan, E1-rows, E2-rows, E3-row, E4-row, E5-row, E6-row, E7-row, E8-row, E9-rows, table}
@@ -24,7 +26,7 @@ unfolding tabulate joined sum every some all consIf filter concat pickFrom membe
     rootWalk rootBlocks rootSound trailerWord greatest blockCount trailer inodeBlock inodePointer leaf rootAddress sizeAddress root size walkTo contents fileBlocks liveBlocks free inRange wordCountSound trailerSound leafSound fileSound treesSound
     number answered unlessRefused counted store barrier isBarrier performed stores fenced flat paired laid
     splice part partLength need needBefore dataPage stored freshPointer pointerPage build
-    step stepEpochs planEpochs plan pairs afterwards levelPage levelBelow levels levelTop splicedWord atBlock tailNeed tailBefore walkLive tailPages hooked tailWords inPlace descend growthTo growth singleWord tail isTail shadowInside leafPage shadowWithLength singleBlock chosenWay writePlan cleared lengthPlan
+    step stepEpochs planEpochs plan pairs afterwards levelPage levelBelow levels levelTop splicedWord atBlock tailNeed tailBefore walkLive tailPages hooked tailWords inPlace descend growthTo growth singleWord isTail emptyTail tail shadowInside leafPage shadowWithLength singleBlock chosenWay writePlan cleared lengthPlan
     inodePage formatPages trailerAddress trailerStores formatPlan
     wordCountFault boardFaults fileFaults freeCountAnswer planned lowest writeFaults write setLength format performFaults performAnswer performBoard
 computes = tt

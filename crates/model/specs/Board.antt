@@ -66,6 +66,12 @@ module _ (g : Layout) (b : List ℕ) where
   unfoldable pub root : ℕ → ℕ
   root f = getD b (rootAddress f) 0
 
+  abbrev pub rootHeight : ℕ → ℕ
+  rootHeight f = root f % g .words
+
+  abbrev pub rootBlock : ℕ → ℕ
+  rootBlock f = root f / g .words
+
   unfoldable pub size : ℕ → ℕ
   size f = getD b (sizeAddress f) 0
 

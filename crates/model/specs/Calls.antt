@@ -12,7 +12,8 @@ use Rattle.model.specs.Layout.{Layout, files}
 use Rattle.model.specs.Board.{greatest, size, contents, free, wordCountSound, trailerSound, treesSound}
 use Rattle.model.specs.Answers.{Faults, answered, unlessRefused}
 use Rattle.model.specs.Store.{Store, isBarrier, stores, performed, paired, laid}
-use Rattle.model.specs.Change.{Plan, pairs, writePlan, lengthPlan}
+use Rattle.model.specs.Plan.{Plan, pairs}
+use Rattle.model.specs.Change.{writePlan, lengthPlan}
 use Rattle.model.specs.Format.{formatPlan}
 
 module _ (g : Layout) (b : List ℕ) where

@@ -9,7 +9,7 @@ use Rattle.model.specs.Lists.{every, some, member}
 use Rattle.model.specs.Words.{byteOf}
 use Rattle.model.specs.Layout.{Layout, files}
 use Rattle.model.specs.Tree.{live, span, cell}
-use Rattle.model.specs.Board.{root, rootAddress, size, free}
+use Rattle.model.specs.Board.{rootAddress, rootHeight, rootBlock, size, free}
 use Rattle.model.specs.Store.{Store}
 
 -- word j of a data block may become w where x is: each byte that differs lies at or past the n bytes below the size
@@ -30,7 +30,7 @@ module _ (W : ℕ) (b : List ℕ) (s : Store) where
 module _ (g : Layout) (b : List ℕ) (s : Store) where
   unfoldable pub hiddenInFile : ℕ → Bool
   hiddenInFile f = eqb (s .at) (rootAddress g b f) && eqb (size g b f) 0
-      || hiddenUnder (g .words) b s (root g b f % g .words) (root g b f / g .words) (size g b f)
+      || hiddenUnder (g .words) b s (rootHeight g b f) (rootBlock g b f) (size g b f)
 
   -- a *hidden* store
   unfoldable pub hidden : Bool

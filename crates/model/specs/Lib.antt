@@ -1,16 +1,21 @@
+-- Document 01 in definitions: the board (Layout to Board), how a change is planned (Store to Format), what each call answers (Answers, Calls,
+-- Cabinet, Lister), the power-cut rule (Cut, Claims), and the marked examples. Lists and Words are what they are written with.
 pub mod Lists
 pub mod Words
 pub mod Layout
 pub mod Tree
 pub mod Board
-pub mod Answers
 pub mod Store
 pub mod Hidden
+pub mod Plan
 pub mod Fresh
+pub mod InPlace
 pub mod Change
 pub mod Format
+pub mod Answers
 pub mod Calls
-pub mod Cut
 pub mod Cabinet
 pub mod Lister
+pub mod Cut
+pub mod Claims
 pub mod Examples

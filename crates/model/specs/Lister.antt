@@ -10,7 +10,7 @@ use Rattle.model.specs.Lists.{joined, sum}
 use Rattle.model.specs.Words.{wordsOf}
 use Rattle.model.specs.Layout.{Layout, files}
 use Rattle.model.specs.Tree.{live, span, cell}
-use Rattle.model.specs.Board.{blockCount, root, size, free}
+use Rattle.model.specs.Board.{blockCount, rootHeight, rootBlock, size, free}
 use Rattle.model.specs.Answers.{answered, number}
 use Rattle.model.specs.Calls.{boardFaults}
 use Rattle.model.specs.Cabinet.{imageFaults}
@@ -67,8 +67,8 @@ word-refused = 114 ∷ 101 ∷ 102 ∷ 117 ∷ 115 ∷ 101 ∷ 100 ∷ []
 module _ (g : Layout) (b : List ℕ) where
   -- *each file of size above 0: number, size, root's height, live data blocks*
   unfoldable pub fileLine : ℕ → List ℕ
-  fileLine f = cond (live (size g b f)) (line word-file f (field word-size (size g b f) ++ field word-height (root g b f % g .words)
-      ++ field word-data (dataBlocks (g .words) b (root g b f % g .words) (root g b f / g .words) (size g b f)))) []
+  fileLine f = cond (live (size g b f)) (line word-file f (field word-size (size g b f) ++ field word-height (rootHeight g b f)
+      ++ field word-data (dataBlocks (g .words) b (rootHeight g b f) (rootBlock g b f) (size g b f)))) []
 
   -- *First line: B, free count. Then each file, rising*
   unfoldable pub boardLines : List ℕ

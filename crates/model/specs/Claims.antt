@@ -1,0 +1,62 @@
+-- What document 01 promises of these definitions, as statements. A theorem of proofs/ is a proof of one of them.
+use mathlib.Core.Path.{_≡_}
+use mathlib.Core.Logic.{_≢_, _⊎_, _↔_}
+use mathlib.Core.Bool.{Bool}
+use mathlib.Core.List.{List, []}
+use Prim.Native.Nat.{ℕ, _<_}
+use lib.ListN.{length}
+use lib.Dec.{T}
+use Rattle.model.specs.declared.Answer.the-variants.{Refused}
+use Rattle.model.specs.declared.Fault.the-variants.{Trailer}
+use Rattle.model.specs.Layout.{Layout, Fits, files}
+use Rattle.model.specs.Board.{trailer, contents, accepted, wordCountSound}
+use Rattle.model.specs.Store.{Store, stores, performed}
+use Rattle.model.specs.Calls.{Planned, format, checkAnswer}
+use Rattle.model.specs.Cut.{Change, fileOf, called, planOf, after, Cut, Names, standing, lastArrived}
+
+-- ---- The power-cut rule
+
+-- b′ stands where b was lent and file f is to read `wanted`. *Before is what a file reads as on the lent board*
+pub record CutSafe (g : Layout) (b b′ : List ℕ) (f : ℕ) (wanted : List ℕ) (ss : List Store) (arrived : Bool) : Type 0 where
+  -- the board is still accepted
+  pub board : T (accepted g b′)
+  -- the file reads wholly as before or wholly as after
+  pub wholly : (contents g b′ f ≡ contents g b f) ⊎ (contents g b′ f ≡ wanted)
+  -- each other file as before
+  pub others : (e : ℕ) → e < files g → e ≢ f → contents g b′ e ≡ contents g b e
+  -- where before and after differ, there is a last planned store, and the file reads as after exactly when it arrived
+  pub planned : contents g b f ≢ wanted → 0 < length ss
+  pub decides : contents g b f ≢ wanted → (contents g b′ f ≡ wanted) ↔ T arrived
+
+-- *One claim covers every accepted board, both calls, all arguments, every way of planning and every cut*
+abbrev pub PowerCutRule : Type 0
+PowerCutRule = (g : Layout) → Fits g → (b : List ℕ) → T (accepted g b) → (c : Change) (slice : List ℕ) (x : Cut)
+    → let p : Planned = called g b c slice in
+    let ss : List Store = planOf p in
+    Names ss x → CutSafe g b (standing ss x b) (fileOf c) (after c (p .answer) (contents g b (fileOf c))) ss (lastArrived ss x)
+
+-- ---- Accuracy: a plan performed whole alters its file as a plain array of bytes would be altered, and no other
+
+pub record Altered (g : Layout) (b b′ : List ℕ) (f : ℕ) (wanted : List ℕ) : Type 0 where
+  pub board : T (accepted g b′)
+  pub file : contents g b′ f ≡ wanted
+  pub others : (e : ℕ) → e < files g → e ≢ f → contents g b′ e ≡ contents g b e
+
+abbrev pub AccuracyRule : Type 0
+AccuracyRule = (g : Layout) → Fits g → (b : List ℕ) → T (accepted g b) → (c : Change) (slice : List ℕ)
+    → let p : Planned = called g b c slice in
+    Altered g b (performed b (stores (planOf p))) (fileOf c) (after c (p .answer) (contents g b (fileOf c)))
+
+-- ---- Format
+
+-- *32 empty files*
+pub record Empty (g : Layout) (b : List ℕ) : Type 0 where
+  pub board : T (accepted g b)
+  pub files-empty : (f : ℕ) → f < files g → contents g b f ≡ []
+
+-- *A cut inside it leaves the old board's word 0, or 0 (refused 2), or 32 empty files.*
+abbrev pub FormatRule : Type 0
+FormatRule = (g : Layout) → Fits g → (b : List ℕ) → T (wordCountSound g b) → (slice : List ℕ) (x : Cut)
+    → let ss : List Store = planOf (format g b slice) in
+    let b′ : List ℕ = standing ss x b in
+    Names ss x → (b′ ≡ b) ⊎ (((trailer g b′ 0 ≡ 0) × (checkAnswer g b′ ≡ Refused Trailer)) ⊎ Empty g b′)
