@@ -13,19 +13,19 @@ use Rattle.model.specs.Board.{size}
 use Rattle.model.specs.Answers.{Faults, answered, unlessRefused, signed}
 use Rattle.model.specs.Calls.{boardFaults, fileFaults, readCount, readBuffer}
 
-module _ (g : Layout) (image : List ℕ) where
-  -- *A byte count that isn't a multiple of 8 is refused 1.*
-  unfoldable pub imageFaults : Faults
-  imageFaults = (WordCount, not (eqb (length image % 8) 0)) ∷ []
+-- *A byte count that isn't a multiple of 8 is refused 1.* So is one above the most words, by the board's own first fault
+unfoldable pub imageFaults : List ℕ → Faults
+imageFaults image = (WordCount, not (eqb (length image % 8) 0)) ∷ []
 
+module _ (g : Layout) (image : List ℕ) where
   unfoldable pub imageCheck : ℤ
-  imageCheck = signed (answered (imageFaults ++ boardFaults g (wordsOf image)) 0)
+  imageCheck = signed (answered (imageFaults image ++ boardFaults g (wordsOf image)) 0)
 
   unfoldable pub imageSize : ℕ → ℤ
-  imageSize f = signed (answered (imageFaults ++ fileFaults g (wordsOf image) f) (size g (wordsOf image) f))
+  imageSize f = signed (answered (imageFaults image ++ fileFaults g (wordsOf image) f) (size g (wordsOf image) f))
 
   unfoldable pub imageReadAnswer : ℕ → ℕ → List ℕ → Answer
-  imageReadAnswer f o out = answered (imageFaults ++ fileFaults g (wordsOf image) f) (readCount g (wordsOf image) f o out)
+  imageReadAnswer f o out = answered (imageFaults image ++ fileFaults g (wordsOf image) f) (readCount g (wordsOf image) f o out)
 
   unfoldable pub imageRead : ℕ → ℕ → List ℕ → ℤ
   imageRead f o out = signed (imageReadAnswer f o out)

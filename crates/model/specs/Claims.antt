@@ -2,17 +2,44 @@
 use mathlib.Core.Path.{_≡_}
 use mathlib.Core.Logic.{_≢_, _⊎_, _↔_}
 use mathlib.Core.Bool.{Bool}
-use mathlib.Core.List.{List, []}
-use Prim.Native.Nat.{ℕ, _<_}
-use lib.ListN.{length}
-use lib.Dec.{T}
+use mathlib.Core.List.{List, [], map}
+use Prim.Native.Nat.{ℕ, _/_, _<_}
+use lib.ListN.{length, drop}
+use lib.Dec.{T, ltb}
 use Rattle.model.specs.declared.Answer.the-variants.{Refused}
 use Rattle.model.specs.declared.Fault.the-variants.{Trailer}
+use Rattle.model.specs.Lists.{all, distinct}
 use Rattle.model.specs.Layout.{Layout, Fits, files}
-use Rattle.model.specs.Board.{trailer, contents, accepted, wordCountSound}
-use Rattle.model.specs.Store.{Store, stores, performed}
-use Rattle.model.specs.Calls.{Planned, format, checkAnswer}
+use Rattle.model.specs.Board.{trailer, contents, inRange, accepted, wordCountSound}
+use Rattle.model.specs.Store.{Store, performed, stores, epochs, fenced}
+use Rattle.model.specs.Calls.{checkAnswer, freeCountAnswer, sizeAnswer, readAnswer, readBuffer, Planned, format, performAnswer}
 use Rattle.model.specs.Cut.{Change, fileOf, called, planOf, after, Cut, Names, standing, lastArrived}
+
+-- ---- Plans of a write or a length change
+
+-- *none stands first or last*, nor two in a row; *within an epoch no address occurs twice*; every store goes to a block in 1 to B − 2
+pub record Shaped (g : Layout) (b : List ℕ) (ss : List Store) : Type 0 where
+  pub fences : ss ≡ fenced (epochs ss)
+  pub full : T (all (λ e. ltb 0 (length e)) (epochs ss))
+  pub once : T (all (λ e. distinct (map (λ s. s .at) e)) (epochs ss))
+  pub inside : T (all (λ s. inRange g b (s .at / g .words)) (stores ss))
+
+abbrev pub PlanRule : Type 0
+PlanRule = (g : Layout) → Fits g → (b : List ℕ) → T (accepted g b) → (c : Change) (slice : List ℕ) → Shaped g b (planOf (called g b c slice))
+
+-- ---- Block 0: *what it holds decides no answer, and no plan stores to it* (Shaped)
+
+pub record SameCalls (g : Layout) (b b′ : List ℕ) : Type 0 where
+  pub checks : checkAnswer g b ≡ checkAnswer g b′
+  pub counts : freeCountAnswer g b ≡ freeCountAnswer g b′
+  pub sizes : (f : ℕ) → sizeAnswer g b f ≡ sizeAnswer g b′ f
+  pub reads : (f o : ℕ) (out : List ℕ) → (readAnswer g b f o out ≡ readAnswer g b′ f o out) × (readBuffer g b f o out ≡ readBuffer g b′ f o out)
+  pub changes : (c : Change) (slice : List ℕ) → called g b c slice ≡ called g b′ c slice
+  pub formats : (slice : List ℕ) → format g b slice ≡ format g b′ slice
+  pub performs : (slice : List ℕ) (k : ℕ) → performAnswer g b slice k ≡ performAnswer g b′ slice k
+
+abbrev pub BootRule : Type 0
+BootRule = (g : Layout) → Fits g → (b b′ : List ℕ) → length b ≡ length b′ → drop (g .words) b ≡ drop (g .words) b′ → SameCalls g b b′
 
 -- ---- The power-cut rule
 

@@ -80,4 +80,4 @@ answerLines g b (Done n) = boardLines g b
 answerLines g b (Refused f) = line word-refused (number f) []
 
 unfoldable pub listing : Layout → List ℕ → List ℕ
-listing g image = answerLines g (wordsOf image) (answered (imageFaults g image ++ boardFaults g (wordsOf image)) 0)
+listing g image = answerLines g (wordsOf image) (answered (imageFaults image ++ boardFaults g (wordsOf image)) 0)
