@@ -16,6 +16,7 @@ module _ (W : ℕ) (b : List ℕ) (r n : ℕ) where
   unfoldable pub rootWalk : ℕ → WalkEnd
   rootWalk i = cond (ltb i (span W (r % W))) (walk W b (r % W) (r / W) n i) Hole
 
+  -- the live blocks of the file
   unfoldable pub rootBlocks : List ℕ
   rootBlocks = blocks W b (r % W) (r / W) n
 
@@ -49,10 +50,11 @@ module _ (g : Layout) (b : List ℕ) where
   unfoldable pub inodeBlock : ℕ
   inodeBlock = trailer 0 / g .words
 
-  -- *inode pointer* l, and the *inode leaf* it points to
+  -- *inode pointer* l
   unfoldable pub inodePointer : ℕ → ℕ
   inodePointer l = cell (g .words) b inodeBlock l
 
+  -- the *inode leaf* it points to
   unfoldable pub leaf : ℕ → ℕ
   leaf l = inodePointer l / g .words
 
@@ -60,18 +62,23 @@ module _ (g : Layout) (b : List ℕ) where
   unfoldable pub rootAddress : ℕ → ℕ
   rootAddress f = g .words * leaf (f / g .inodes) + 2 * (f % g .inodes)
 
+  -- where its size stands, the word after
   unfoldable pub sizeAddress : ℕ → ℕ
   sizeAddress f = rootAddress f + 1
 
+  -- its *root* word
   unfoldable pub root : ℕ → ℕ
   root f = getD b (rootAddress f) 0
 
+  -- the *height* in it
   abbrev pub rootHeight : ℕ → ℕ
   rootHeight f = root f % g .words
 
+  -- and the *block*
   abbrev pub rootBlock : ℕ → ℕ
   rootBlock f = root f / g .words
 
+  -- its *size*
   unfoldable pub size : ℕ → ℕ
   size f = getD b (sizeAddress f) 0
 
@@ -83,6 +90,7 @@ module _ (g : Layout) (b : List ℕ) where
   unfoldable pub contents : ℕ → List ℕ
   contents f = tabulate (size f) (λ i. shown (g .words) b (walkTo f i) (i % span (g .words) 0))
 
+  -- the blocks of a file that are *reached by live pointers only*
   unfoldable pub fileBlocks : ℕ → List ℕ
   fileBlocks f = rootBlocks (g .words) b (root f) (size f)
 

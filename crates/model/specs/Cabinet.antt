@@ -18,15 +18,19 @@ unfoldable pub imageFaults : List ℕ → Faults
 imageFaults image = (WordCount, not (eqb (length image % 8) 0)) ∷ []
 
 module _ (g : Layout) (image : List ℕ) where
+  -- check
   unfoldable pub imageCheck : ℤ
   imageCheck = signed (answered (imageFaults image ++ boardFaults g (wordsOf image)) 0)
 
+  -- size
   unfoldable pub imageSize : ℕ → ℤ
   imageSize f = signed (answered (imageFaults image ++ fileFaults g (wordsOf image) f) (size g (wordsOf image) f))
 
+  -- read, as an answer
   unfoldable pub imageReadAnswer : ℕ → ℕ → List ℕ → Answer
   imageReadAnswer f o out = answered (imageFaults image ++ fileFaults g (wordsOf image) f) (readCount g (wordsOf image) f o out)
 
+  -- and as C gets it
   unfoldable pub imageRead : ℕ → ℕ → List ℕ → ℤ
   imageRead f o out = signed (imageReadAnswer f o out)
 

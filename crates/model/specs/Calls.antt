@@ -45,6 +45,7 @@ module _ (g : Layout) (b : List ℕ) where
   unfoldable pub readCount : ℕ → ℕ → List ℕ → ℕ
   readCount f o out = min (length out) (size g b f - o)
 
+  -- it *answers the count*
   unfoldable pub readAnswer : ℕ → ℕ → List ℕ → Answer
   readAnswer f o out = answered (fileFaults f) (readCount f o out)
 
@@ -73,6 +74,7 @@ module _ (g : Layout) (b : List ℕ) where
   writeFaults f o new p = fileFaults g b f
       ++ ((Offset, ltb (size g b f) o) ∷ (End, ltb (greatest g) (o + length new)) ∷ (FreeBlocks, ltb (length (free g b)) (p .taken)) ∷ [])
 
+  -- the plan goes to the lent slice
   unfoldable pub write : ℕ → ℕ → List ℕ → List ℕ → Planned
   write f o new slice = let p : Plan = writePlan g lowest b f o new in planned (writeFaults f o new p) (pairs p) slice
 

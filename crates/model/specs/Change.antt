@@ -99,8 +99,9 @@ pub record Shadow : Type 0 where
   pub pages : List Page
 
 -- *go down from the root word while its block exists, isn't data and all written bytes lie under one of its pointers. The word arrived at
--- is the commit; all touched beneath it is fresh*; the word of the tree (h, k, n) stands at address a
+-- is the commit; all touched beneath it is fresh*
 module _ (W : ℕ) (fresh : ℕ → ℕ) (b : List ℕ) where
+  -- with `new` written at o of the tree (h, k, n), whose pointer stands at address a
   unfoldable pub descend : ℕ → ℕ → ℕ → ℕ → List ℕ → ℕ → ℕ → Shadow
   descend zero k n o new c a = record { at = a; pages = build W fresh b zero k n o new c }
   descend (suc h) zero n o new c a = record { at = a; pages = build W fresh b (suc h) zero n o new c }

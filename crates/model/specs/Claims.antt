@@ -24,11 +24,13 @@ pub record Shaped (g : Layout) (b : List ℕ) (ss : List Store) : Type 0 where
   pub once : T (all (λ e. distinct (map (λ s. s .at) e)) (epochs ss))
   pub inside : T (all (λ s. inRange g b (s .at / g .words)) (stores ss))
 
+-- every plan of a write or a length change on an accepted board is so
 abbrev pub PlanRule : Type 0
 PlanRule = (g : Layout) → Fits g → (b : List ℕ) → T (accepted g b) → (c : Change) (slice : List ℕ) → Shaped g b (planOf (called g b c slice))
 
 -- ---- Block 0: *what it holds decides no answer, and no plan stores to it* (Shaped)
 
+-- every call answers and leaves the same on b and b′
 pub record SameCalls (g : Layout) (b b′ : List ℕ) : Type 0 where
   pub checks : checkAnswer g b ≡ checkAnswer g b′
   pub counts : freeCountAnswer g b ≡ freeCountAnswer g b′
@@ -38,6 +40,7 @@ pub record SameCalls (g : Layout) (b b′ : List ℕ) : Type 0 where
   pub formats : (slice : List ℕ) → format g b slice ≡ format g b′ slice
   pub performs : (slice : List ℕ) (k : ℕ) → performAnswer g b slice k ≡ performAnswer g b′ slice k
 
+-- boards that differ in block 0 alone
 abbrev pub BootRule : Type 0
 BootRule = (g : Layout) → Fits g → (b b′ : List ℕ) → length b ≡ length b′ → drop (g .words) b ≡ drop (g .words) b′ → SameCalls g b b′
 
@@ -64,11 +67,13 @@ PowerCutRule = (g : Layout) → Fits g → (b : List ℕ) → T (accepted g b) �
 
 -- ---- Accuracy: a plan performed whole alters its file as a plain array of bytes would be altered, and no other
 
+-- on b′ file f reads `wanted`, and the others as on b
 pub record Altered (g : Layout) (b b′ : List ℕ) (f : ℕ) (wanted : List ℕ) : Type 0 where
   pub board : T (accepted g b′)
   pub file : contents g b′ f ≡ wanted
   pub others : (e : ℕ) → e < files g → e ≢ f → contents g b′ e ≡ contents g b e
 
+-- for every accepted board, both calls and all arguments, refused ones too
 abbrev pub AccuracyRule : Type 0
 AccuracyRule = (g : Layout) → Fits g → (b : List ℕ) → T (accepted g b) → (c : Change) (slice : List ℕ)
     → let p : Planned = called g b c slice in

@@ -18,6 +18,7 @@ pub data Change : Type 0 where
   writing : ℕ → ℕ → Bytes → Change
   lengthTo : ℕ → ℕ → Change
 
+-- the file that is changed
 unfoldable pub fileOf : Change → ℕ
 fileOf (writing f o new) = f
 fileOf (lengthTo f n) = f
@@ -46,6 +47,7 @@ pub record Cut : Type 0 where
   pub epoch : ℕ
   pub arrived : ℕ → Bool
 
+-- the stores whose place is in the set
 unfoldable pub chosen : (ℕ → Bool) → List Store → List Store
 chosen p [] = []
 chosen p (s ∷ ss) = consIf (p 0) s (chosen (λ i. p (suc i)) ss)

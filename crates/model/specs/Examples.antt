@@ -22,6 +22,7 @@ pub data Call : Type 0 where
   writes : ℕ → List ℕ → Call
   setsLength : ℕ → Call
 
+-- what the document gives of a call
 pub data Seen : Type 0 where
   -- the answer
   answers : Answer → Seen
@@ -43,12 +44,14 @@ pub record Row : Type 0 where
 
 -- ---- What a row says
 
+-- what the call answers, and the plan slice at exit
 unfoldable pub plannedOf : List ℕ → Call → List ℕ → Planned
 plannedOf b formats slice = format house b slice
 plannedOf b countsFree slice = record { answer = freeCountAnswer house b; slice = slice }
 plannedOf b (writes o new) slice = write house b 0 o new slice
 plannedOf b (setsLength n) slice = setLength house b 0 n slice
 
+-- the fresh blocks of its plan
 unfoldable pub takenBy : List ℕ → Call → ℕ
 takenBy b formats = 0
 takenBy b countsFree = 0
@@ -63,6 +66,7 @@ slack room = replicate room 7
 unfoldable pub ran : List ℕ → Call → ℕ → List ℕ
 ran b c room = let p : Planned = plannedOf b c (slack room) in performBoard house b (p .slice) (counted (p .answer))
 
+-- and with several calls performed, one after the other
 unfoldable pub ranAll : List Call → List ℕ → List ℕ
 ranAll [] b = b
 ranAll (c ∷ cs) b = ranAll cs (ran b c 200)
@@ -71,6 +75,7 @@ ranAll (c ∷ cs) b = ranAll cs (ran b c 200)
 unfoldable pub boardOf : Row → List ℕ
 boardOf r = ranAll (formats ∷ r .first) (replicate (8 * r .blocksOf) 7)
 
+-- tests of equality
 unfoldable pub sameList : List ℕ → List ℕ → Bool
 sameList [] [] = true
 sameList [] (y ∷ ys) = false
@@ -83,6 +88,7 @@ sameAnswer (Done m) (Refused f) = false
 sameAnswer (Refused e) (Done n) = false
 sameAnswer (Refused e) (Refused f) = eqb (number e) (number f)
 
+-- what is to be seen is seen
 unfoldable pub saw : List ℕ → Call → ℕ → Seen → Bool
 saw b c room (answers a) = sameAnswer (plannedOf b c (slack room) .answer) a
 saw b c room (plans ws) = sameList (plannedOf b c (slack room) .slice) (ws ++ drop (length ws) (slack room))
@@ -90,6 +96,7 @@ saw b c room (takes n) = eqb (takenBy b c) n
 saw b c room (leavesFree n) = sameAnswer (freeCountAnswer house (ran b c room)) (Done n)
 saw b c room (reads bytes) = sameList (contents house (ran b c room) 0) bytes
 
+-- every thing that a row says
 unfoldable pub holds : Row → Bool
 holds r = all (saw (boardOf r) (r .call) (r .room)) (r .seenThen)
 
@@ -108,6 +115,7 @@ unfoldable pub filled : ℕ → List ℕ → List ℕ
 filled a [] = []
 filled a (w ∷ ws) = a ∷ w ∷ filled (suc a) ws
 
+-- E2 to E8: the calls and plans that more than one line needs
 unfoldable pub E2 : Call
 E2 = writes 0 (65 ∷ 66 ∷ [])
 
@@ -121,40 +129,50 @@ unfoldable pub E8-plan : List ℕ
 E8-plan = filled 88 (80 ∷ replicate 7 0) ++ fence ++ (16 ∷ 89 ∷ []) ++ fence
     ++ filled 96 (replicate 4 0 ++ (117440512 ∷ replicate 3 0)) ++ fence ++ (89 ∷ 96 ∷ [])
 
+-- E1: *Free count 5. (On 1,024 blocks: 1,013.)*
 unfoldable pub E1-rows : List Row
 E1-rows = row [] countsFree 0 (answers (Done 5) ∷ [])
     ∷ record { blocksOf = 1024; first = []; call = countsFree; room = 0; seenThen = answers (Done 1013) ∷ [] }
     ∷ []
 
+-- E2: *11 pairs; 22 plan words suffice, 21 give 8. Free 4.*
 unfoldable pub E2-rows : List Row
 E2-rows = row [] E2 22 (answers (Done 11) ∷ plans E2-plan ∷ leavesFree 4 ∷ reads (65 ∷ 66 ∷ []) ∷ [])
     ∷ row [] E2 21 (answers (Refused PlanLength) ∷ plans [] ∷ [])
     ∷ []
 
+-- E3: *word 80 = 16986, one pair.*
 unfoldable pub E3-row : Row
 E3-row = row (E2 ∷ []) (writes 0 (90 ∷ [])) 4 (answers (Done 1) ∷ plans (80 ∷ 16986 ∷ []) ∷ reads (90 ∷ 66 ∷ []) ∷ [])
 
+-- E4: *18 pairs. Free 4 afterwards.*
 unfoldable pub E4-row : Row
 E4-row = row (E2 ∷ []) (writes 1 (67 ∷ 68 ∷ [])) 40 (answers (Done 18) ∷ plans E4-plan ∷ leavesFree 4 ∷ reads (65 ∷ 67 ∷ 68 ∷ []) ∷ [])
 
+-- E5: *word 17 = 0. Free 5.*
 unfoldable pub E5-row : Row
 E5-row = row (E2 ∷ []) (setsLength 0) 4 (answers (Done 1) ∷ plans (17 ∷ 0 ∷ []) ∷ leavesFree 5 ∷ reads [] ∷ [])
 
+-- E6: *The byte reads 0, not 65.*
 unfoldable pub E6-row : Row
 E6-row = row (E2 ∷ setsLength 0 ∷ []) (setsLength 1) 8 (answers (Done 3) ∷ plans ((16 ∷ 0 ∷ []) ++ fence ++ (17 ∷ 1 ∷ [])) ∷ reads (0 ∷ []) ∷ [])
 
+-- E7: *word 80 = 16961, 81 = 0; barrier; 17 = 10.*
 unfoldable pub E7-row : Row
 E7-row = row (E2 ∷ []) (setsLength 10) 8
     (answers (Done 4) ∷ plans ((80 ∷ 16961 ∷ 81 ∷ 0 ∷ []) ++ fence ++ (17 ∷ 10 ∷ [])) ∷ reads (65 ∷ 66 ∷ replicate 8 0) ∷ [])
 
+-- E8: *21 pairs.*
 unfoldable pub E8-row : Row
 E8-row = row (E2 ∷ setsLength 100 ∷ []) (writes 99 (7 ∷ [])) 50
     (answers (Done 21) ∷ plans E8-plan ∷ reads ((65 ∷ 66 ∷ replicate 97 0) ++ (7 ∷ [])) ∷ [])
 
+-- E9: *256 bytes need 5 blocks and are accepted; 257 need 6: refused 7.*
 unfoldable pub E9-rows : List Row
 E9-rows = row [] (writes 0 (replicate 256 1)) 100 (takes 5 ∷ answers (Done 43) ∷ leavesFree 0 ∷ reads (replicate 256 1) ∷ [])
     ∷ row [] (writes 0 (replicate 257 1)) 100 (takes 6 ∷ answers (Refused FreeBlocks) ∷ plans [] ∷ leavesFree 5 ∷ reads [] ∷ [])
     ∷ []
 
+-- the marked set
 unfoldable pub table : List Row
 table = E1-rows ++ E2-rows ++ (E3-row ∷ E4-row ∷ E5-row ∷ E6-row ∷ E7-row ∷ E8-row ∷ []) ++ E9-rows

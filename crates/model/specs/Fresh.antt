@@ -11,6 +11,7 @@ use Rattle.model.specs.Words.{byteOf, wordOf}
 use Rattle.model.specs.Tree.{seen, span, link}
 use Rattle.model.specs.Store.{Store, store}
 
+-- word j of a block
 abbrev pub Page : Type 0
 Page = ℕ → ℕ
 
@@ -19,10 +20,11 @@ unfoldable pub splice : ℕ → List ℕ → ℕ → ℕ → ℕ
 splice o new old i = cond (leb o i && ltb i (o + length new)) (getD new (i - o) 0) old
 
 -- of the bytes written at o, those that fall under child j, each child spanning s bytes: *only the part of the caller's bytes that
--- starts at its own offset*, which is o - j * s; and of l bytes how many
+-- starts at its own offset*, which is o - j * s
 unfoldable pub part : ℕ → ℕ → ℕ → List ℕ → List ℕ
 part s j o new = take (s - (o - j * s)) (drop (j * s - o) new)
 
+-- how many they are, of l
 unfoldable pub partLength : ℕ → ℕ → ℕ → ℕ → ℕ
 partLength s j o l = min (s - (o - j * s)) (l - (j * s - o))
 

@@ -18,6 +18,7 @@ keepsBytes n j x w = every 8 (λ i. leb n (8 * j + i) || eqb (byteOf w i) (byteO
 
 -- the second and third kind, in the tree (h, k, n)
 module _ (W : ℕ) (b : List ℕ) (s : Store) where
+  -- *a live data block*, whose bytes are kept; *a pointer that isn't live in a live block*; or one of these further down
   unfoldable pub hiddenUnder : ℕ → ℕ → ℕ → Bool
   hiddenUnder zero zero n = false
   hiddenUnder zero (suc k) zero = false
@@ -28,6 +29,7 @@ module _ (W : ℕ) (b : List ℕ) (s : Store) where
       || some W (λ j. hiddenUnder h (cell W b (suc k) j / W) (suc n - j * span W h))
 
 module _ (g : Layout) (b : List ℕ) (s : Store) where
+  -- *the root of a file of size 0*, or in the file's tree
   unfoldable pub hiddenInFile : ℕ → Bool
   hiddenInFile f = eqb (s .at) (rootAddress g b f) && eqb (size g b f) 0
       || hiddenUnder (g .words) b s (rootHeight g b f) (rootBlock g b f) (size g b f)

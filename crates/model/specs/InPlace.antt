@@ -49,10 +49,12 @@ module _ (W : ℕ) where
     -- `hook h l c` is what a pointer over height h gets that isn't live and leads to l of the bytes: a tail hooks a fresh subtree,
     -- a length change 0. They stand *by the first file byte they stand for*. A live hole stays
     module _ (hook : ℕ → ℕ → ℕ → ℕ) where
+      -- a pointer that isn't live, where bytes are written beneath it
       unfoldable pub hooked : ℕ → List ℕ → ℕ → ℕ → List Store
       hooked h [] c a = []
       hooked h (x ∷ new) c a = store a (hook h (suc (length new)) c) ∷ []
 
+      -- all of them, left to right
       unfoldable pub inPlace : ℕ → ℕ → ℕ → List ℕ → ℕ → ℕ → List Store
       inPlace zero k zero new c a = hooked zero new c a
       inPlace zero zero (suc n) new c a = []

@@ -14,6 +14,7 @@ pub record Layout : Type 0 where
   -- the most blocks
   pub most : ℕ
 
+-- document 01's board
 abbrev pub house : Layout
 house = record { words = 8; height = 3; leaves = 8; inodes = 4; mark = 1; most = 1024 }
 

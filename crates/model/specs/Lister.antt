@@ -15,8 +15,8 @@ use Rattle.model.specs.Answers.{answered, number}
 use Rattle.model.specs.Calls.{boardFaults}
 use Rattle.model.specs.Cabinet.{imageFaults}
 
--- the *live data blocks* of the tree (h, k, n)
 module _ (W : ℕ) (b : List ℕ) where
+  -- the *live data blocks* of the tree (h, k, n), counted
   unfoldable pub dataBlocks : ℕ → ℕ → ℕ → ℕ
   dataBlocks zero zero n = 0
   dataBlocks zero (suc k) zero = 0
@@ -79,5 +79,6 @@ unfoldable pub answerLines : Layout → List ℕ → Answer → List ℕ
 answerLines g b (Done n) = boardLines g b
 answerLines g b (Refused f) = line word-refused (number f) []
 
+-- what is printed for an image
 unfoldable pub listing : Layout → List ℕ → List ℕ
 listing g image = answerLines g (wordsOf image) (answered (imageFaults image ++ boardFaults g (wordsOf image)) 0)

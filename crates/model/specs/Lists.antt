@@ -19,11 +19,12 @@ unfoldable pub sum : ℕ → (ℕ → ℕ) → ℕ
 sum zero f = 0
 sum (suc n) f = sum n f + f n
 
--- p holds of every number below n, or of one
+-- p holds of every number below n
 unfoldable pub every : ℕ → (ℕ → Bool) → Bool
 every zero p = true
 every (suc n) p = every n p && p n
 
+-- or of one
 unfoldable pub some : ℕ → (ℕ → Bool) → Bool
 some zero p = false
 some (suc n) p = some n p || p n
@@ -53,10 +54,12 @@ unfoldable pub pickFrom : ℕ → ℕ → (ℕ → Bool) → List ℕ
 pickFrom c zero p = []
 pickFrom c (suc n) p = consIf (p c) c (pickFrom (c + 1) n p)
 
+-- x is among them
 unfoldable pub member : ℕ → List ℕ → Bool
 member x [] = false
 member x (y ∷ ys) = eqb x y || member x ys
 
+-- no number stands there twice
 unfoldable pub distinct : List ℕ → Bool
 distinct [] = true
 distinct (x ∷ xs) = not (member x xs) && distinct xs

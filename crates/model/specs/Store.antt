@@ -12,13 +12,15 @@ pub record Store : Type 0 where
   pub at : ℕ
   pub value : ℕ
 
+-- v stored at a
 unfoldable pub store : ℕ → ℕ → Store
 store a v = record { at = a; value = v }
 
--- *The pair (2^64 − 1, 0) is a barrier*; one is known by its address alone
+-- *The pair (2^64 − 1, 0) is a barrier*
 unfoldable pub barrier : Store
 barrier = store (2 ^ 64 - 1) 0
 
+-- one is known by its address alone
 unfoldable pub isBarrier : Store → Bool
 isBarrier s = eqb (s .at) (2 ^ 64 - 1)
 
@@ -31,11 +33,12 @@ performed b (s ∷ ss) = performed (set b (s .at) (s .value)) ss
 unfoldable pub stores : List Store → List Store
 stores = filter (λ s. not (isBarrier s))
 
--- the *epochs* of pairs: a barrier *ends an epoch*
+-- a store before the first of some epochs
 unfoldable pub opening : Store → List (List Store) → List (List Store)
 opening s [] = (s ∷ []) ∷ []
 opening s (e ∷ es) = (s ∷ e) ∷ es
 
+-- the *epochs* of pairs: a barrier *ends an epoch*
 unfoldable pub epochs : List Store → List (List Store)
 epochs [] = []
 epochs (s ∷ ss) = cond (isBarrier s) ([] ∷ epochs ss) (opening s (epochs ss))
@@ -46,11 +49,12 @@ fenced [] = []
 fenced (e ∷ []) = e
 fenced (e ∷ d ∷ es) = e ++ (barrier ∷ fenced (d ∷ es))
 
--- pairs as words, and the pairs that words hold
+-- pairs as words
 unfoldable pub flat : List Store → List ℕ
 flat [] = []
 flat (s ∷ ss) = s .at ∷ s .value ∷ flat ss
 
+-- the pairs that words hold
 unfoldable pub paired : List ℕ → List Store
 paired [] = []
 paired (a ∷ []) = []
