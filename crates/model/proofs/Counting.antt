@@ -52,21 +52,17 @@ occ-distinct [] h = tt
 occ-distinct (x ∷ xs) h =
     and-both (not (member x xs)) (distinct xs) (rw (member-none x xs (omega (arith, h x, one-same x))) tt) (occ-distinct xs (λ q. omega (arith, h q)))
 
--- numbers that rise by one from a: none occurs twice, and none below a occurs
-pub rising-below : (q a n : ℕ) → q < a → sum n (λ j. one q (a + j)) ≡ 0
+-- a number that a loop never meets is not counted
+pub sum-none : (q n : ℕ) (f : ℕ → ℕ) → ((j : ℕ) → j < n → q ≢ f j) → sum n (λ j. one q (f j)) ≡ 0
 unfolding sum
-rising-below q a zero l = refl
-rising-below q a (suc n) l = omega (arith, rising-below q a n l, one-other q (a + n) (omega arith))
+sum-none q zero f d = refl
+sum-none q (suc n) f d = omega (arith, sum-none q n f (λ j l. d j (omega arith)), one-other q (f n) (d n (omega arith)))
 
-pub rising-past : (q a n : ℕ) → a + n ≤ q → sum n (λ j. one q (a + j)) ≡ 0
+-- numbers that differ are met once at most
+pub sum-once : (q n : ℕ) (f : ℕ → ℕ) → ((i j : ℕ) → i < j → j < n → f i ≢ f j) → sum n (λ j. one q (f j)) ≤ 1
 unfolding sum
-rising-past q a zero l = refl
-rising-past q a (suc n) l = omega (arith, rising-past q a n (omega arith), one-other q (a + n) (omega arith))
-
-pub rising-once : (q a n : ℕ) → sum n (λ j. one q (a + j)) ≤ 1
-unfolding sum
-rising-once q a zero = omega arith
-rising-once q a (suc n) = elim (decide q (a + n)) [
-  | inl e ↦ rw e (omega (arith, rising-past (a + n) a n (omega arith), one-same (a + n)))
-  | inr d ↦ omega (arith, rising-once q a n, one-other q (a + n) d)
+sum-once q zero f d = omega arith
+sum-once q (suc n) f d = elim (decide q (f n)) [
+  | inl e ↦ rw e (omega (arith, sum-none (f n) n f (λ j l x. d j n l (omega arith) (sym x)), one-same (f n)))
+  | inr x ↦ omega (arith, sum-once q n f (λ i j u v. d i j u (omega arith)), one-other q (f n) x)
 ]

@@ -20,7 +20,7 @@ use Rattle.model.specs.Plan.{plan, step, stepEpochs, planEpochs, pairs}
 use Rattle.model.specs.Format.{inodePage, formatPages, trailerAddress, trailerStores, formatPlan}
 use Rattle.model.specs.Claims.{Empty}
 use Rattle.model.proofs.Cases.{decide, and-left, and-right, and-both, every-all, tabulate-cong, joined-none}
-use Rattle.model.proofs.Counting.{occ, one-same, one-other, occ-append, occ-tabulate, occ-distinct, rising-below, rising-once}
+use Rattle.model.proofs.Counting.{occ, one-same, one-other, occ-append, occ-tabulate, occ-distinct, sum-none, sum-once}
 use Rattle.model.proofs.Perform.{All, Plain, all-append, all-tabulate, length-tabulate, length-performed, performed-append, performed-away, performed-tabulate, stores-fenced, address-block, block-on, blocks-differ, length-stored, stored-blocks, stored-cell}
 
 -- a board whose word count is in order
@@ -123,8 +123,8 @@ module _ (g : Layout) (fit : Fits g) (b b′ : List ℕ) (ok : T (wordCountSound
   live-once : (q : ℕ) → occ q (1 ∷ (tabulate (g .leaves) (λ l. 2 + l) ++ [])) ≤ 1
   unfolding occ
   live-once q = elim (decide q 1) [
-    | inl e ↦ rw e (omega (arith, one-same 1, occ-append 1 (tabulate (g .leaves) (λ l. 2 + l)) [], occ-tabulate 1 (g .leaves) (λ l. 2 + l), rising-below 1 2 (g .leaves) (omega arith)))
-    | inr d ↦ omega (arith, one-other q 1 d, occ-append q (tabulate (g .leaves) (λ l. 2 + l)) [], occ-tabulate q (g .leaves) (λ l. 2 + l), rising-once q 2 (g .leaves))
+    | inl e ↦ rw e (omega (arith, one-same 1, occ-append 1 (tabulate (g .leaves) (λ l. 2 + l)) [], occ-tabulate 1 (g .leaves) (λ l. 2 + l), sum-none 1 (g .leaves) (λ l. 2 + l) (λ j l. omega arith)))
+    | inr d ↦ omega (arith, one-other q 1 d, occ-append q (tabulate (g .leaves) (λ l. 2 + l)) [], occ-tabulate q (g .leaves) (λ l. 2 + l), sum-once q (g .leaves) (λ l. 2 + l) (λ i j u v. omega arith))
   ]
 
   live-distinct : T (distinct (liveBlocks g b′))

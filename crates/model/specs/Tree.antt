@@ -11,7 +11,7 @@ use Rattle.model.specs.declared.WalkEnd.the-variants.{Block, Hole}
 use Rattle.model.specs.Lists.{every, joined}
 use Rattle.model.specs.Words.{byteOf}
 
--- *live*
+-- *live*: some of its n bytes lie below the size, and then the first does
 unfoldable pub live : ℕ → Bool
 live zero = false
 live (suc n) = true
