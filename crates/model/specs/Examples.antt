@@ -88,17 +88,20 @@ sameAnswer (Done m) (Refused f) = false
 sameAnswer (Refused e) (Done n) = false
 sameAnswer (Refused e) (Refused f) = eqb (number e) (number f)
 
--- what is to be seen is seen
-unfoldable pub saw : List ℕ → Call → ℕ → Seen → Bool
-saw b c room (answers a) = sameAnswer (plannedOf b c (slack room) .answer) a
-saw b c room (plans ws) = sameList (plannedOf b c (slack room) .slice) (ws ++ drop (length ws) (slack room))
-saw b c room (takes n) = eqb (takenBy b c) n
-saw b c room (leavesFree n) = sameAnswer (freeCountAnswer house (ran b c room)) (Done n)
-saw b c room (reads bytes) = sameList (contents house (ran b c room) 0) bytes
+-- what is to be seen is seen, of what the call answers and leaves in the slice, the board once it is performed, and the blocks it takes
+unfoldable pub saw : Planned → List ℕ → ℕ → List ℕ → Seen → Bool
+saw p b taken lent (answers a) = sameAnswer (p .answer) a
+saw p b taken lent (plans ws) = sameList (p .slice) (ws ++ drop (length ws) lent)
+saw p b taken lent (takes n) = eqb taken n
+saw p b taken lent (leavesFree n) = sameAnswer (freeCountAnswer house b) (Done n)
+saw p b taken lent (reads bytes) = sameList (contents house b 0) bytes
 
 -- every thing that a row says
 unfoldable pub holds : Row → Bool
-holds r = all (saw (boardOf r) (r .call) (r .room)) (r .seenThen)
+holds r =
+    let b : List ℕ = boardOf r in
+    let p : Planned = plannedOf b (r .call) (slack (r .room)) in
+    all (saw p (performBoard house b (p .slice) (counted (p .answer))) (takenBy b (r .call)) (slack (r .room))) (r .seenThen)
 
 -- ---- The table
 

@@ -1,0 +1,38 @@
+-- One name for all definitions, for proofs by computation: with `unfolding computes` every definition of specs/ unfolds.
+use Rattle.model.specs.Lists.{tabulate, joined, sum, every, some, all, consIf, filter, concat, pickFrom, member, distinct, choose}
+use Rattle.model.specs.Words.{byteOf, wordOf, wordsOf}
+use Rattle.model.specs.Layout.{files}
+use Rattle.model.specs.Tree.{live, seen, ending, span, least, aligned, cell, link, walk, shown, blocks, sound}
+use Rattle.model.specs.Board.{rootWalk, rootBlocks, rootSound, trailerWord, greatest, blockCount, trailer, inodeBlock, inodePointer, leaf, rootAddress, sizeAddress, root, size, walkTo, contents, fileBlocks, liveBlocks, free, inRange, wordCountSound, trailerSound, leafSound, fileSound, treesSound, accepted}
+use Rattle.model.specs.Store.{store, barrier, isBarrier, performed, stores, opening, epochs, fenced, flat, paired, laid}
+use Rattle.model.specs.Hidden.{keepsBytes, hiddenUnder, hiddenInFile, hidden}
+use Rattle.model.specs.Plan.{step, stepEpochs, planEpochs, plan, pairs, afterwards}
+use Rattle.model.specs.Fresh.{splice, part, partLength, need, needBefore, dataPage, stored, freshPointer, pointerPage, build}
+use Rattle.model.specs.InPlace.{atBlock, tailNeed, tailBefore, walkLive, tailPages, tailWords, hooked, inPlace}
+use Rattle.model.specs.Change.{levelPage, levelBelow, levels, levelTop, growthTo, growth, splicedWord, singleBlock, singleWord, isTail, emptyTail, tail, descend, shadowInside, leafPage, shadowWithLength, chosenWay, writePlan, cleared, lengthPlan}
+use Rattle.model.specs.Format.{inodePage, formatPages, trailerAddress, trailerStores, formatPlan}
+use Rattle.model.specs.Answers.{number, signed, answered, unlessRefused, counted}
+use Rattle.model.specs.Calls.{wordCountFault, boardFaults, fileFaults, checkAnswer, freeCountAnswer, sizeAnswer, readCount, readAnswer, readBuffer, planned, lowest, writeFaults, write, setLength, format, performFaults, performAnswer, performBoard}
+use Rattle.model.specs.Cabinet.{imageFaults, imageCheck, imageSize, imageReadAnswer, imageRead, imageReadBuffer}
+use Rattle.model.specs.Lister.{dataBlocks, digits, decimal, field, line, fileLine, boardLines, answerLines, listing}
+use Rattle.model.specs.Cut.{fileOf, called, planOf, altered, after, chosen, standing, lastArrived}
+
+unfoldable pub computes : Unit {0}
+unfolding tabulate joined sum every some all consIf filter concat pickFrom member distinct choose
+    byteOf wordOf wordsOf
+    files
+    live seen ending span least aligned cell link walk shown blocks sound
+    rootWalk rootBlocks rootSound trailerWord greatest blockCount trailer inodeBlock inodePointer leaf rootAddress sizeAddress root size walkTo contents fileBlocks liveBlocks free inRange wordCountSound trailerSound leafSound fileSound treesSound accepted
+    store barrier isBarrier performed stores opening epochs fenced flat paired laid
+    keepsBytes hiddenUnder hiddenInFile hidden
+    step stepEpochs planEpochs plan pairs afterwards
+    splice part partLength need needBefore dataPage stored freshPointer pointerPage build
+    atBlock tailNeed tailBefore walkLive tailPages tailWords hooked inPlace
+    levelPage levelBelow levels levelTop growthTo growth splicedWord singleBlock singleWord isTail emptyTail tail descend shadowInside leafPage shadowWithLength chosenWay writePlan cleared lengthPlan
+    inodePage formatPages trailerAddress trailerStores formatPlan
+    number signed answered unlessRefused counted
+    wordCountFault boardFaults fileFaults checkAnswer freeCountAnswer sizeAnswer readCount readAnswer readBuffer planned lowest writeFaults write setLength format performFaults performAnswer performBoard
+    imageFaults imageCheck imageSize imageReadAnswer imageRead imageReadBuffer
+    dataBlocks digits decimal field line fileLine boardLines answerLines listing
+    fileOf called planOf altered after chosen standing lastArrived
+computes = tt

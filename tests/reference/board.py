@@ -1,0 +1,458 @@
+"""A model of the cabinet memory board in Python, written from document 01 alone and apart from the definitions in crates/model.
+
+It surveys a board into dictionaries and plans with explicit loops, so that an error is not likely to be made twice. Answers are
+numbers, a refusal r is -r. vectors.py holds the definitions against it.
+"""
+
+BARRIER = 2**64 - 1
+MOST = 32768
+SPAN = [64, 512, 4096, 32768]
+
+
+class Refused(Exception):
+    def __init__(self, number):
+        super().__init__(number)
+        self.number = number
+
+
+def bytes_of(word):
+    return [(word >> (8 * i)) & 255 for i in range(8)]
+
+
+def word_of(values):
+    return sum(x << (8 * i) for i, x in enumerate(values))
+
+
+def words_of(image):
+    return [word_of(image[i:i + 8]) for i in range(0, len(image), 8)]
+
+
+def image_of(board):
+    return [x for word in board for x in bytes_of(word)]
+
+
+# ---- Reading a board
+
+
+def word_count(board):
+    if not 128 <= len(board) <= 8192 or len(board) % 8:
+        raise Refused(1)
+
+
+class Survey:
+    """What can be reached on an accepted board.
+
+    blocks: the live blocks, each with what it is: ('pointers',), ('leaf', l), ('node', file, first byte, height), ('data', file, first byte)
+    cells: the address of each root and file pointer in a live block, with (file, first byte, live)
+    """
+
+    def __init__(self, board):
+        word_count(board)
+        self.board = board
+        self.count = len(board) // 8
+        trailer = board[8 * (self.count - 1):]
+        root = trailer[0]
+        if list(trailer[1:]) != [512, self.count, 1, 0, 0, 0, 0] or root % 8 != 1 or not self.inside(root // 8):
+            raise Refused(2)
+        self.blocks, self.cells, self.size, self.leaves = {}, {}, {}, []
+        self.pointer_block = root // 8
+        self.reach(self.pointer_block, ('pointers',))
+        for leaf in range(8):
+            word = board[8 * self.pointer_block + leaf]
+            if word % 8 or not self.inside(word // 8):
+                raise Refused(3)
+            self.reach(word // 8, ('leaf', leaf))
+            self.leaves.append(word // 8)
+        for file in range(32):
+            self.survey_file(file)
+        self.free = [k for k in range(1, self.count - 1) if k not in self.blocks]
+
+    def inside(self, block):
+        return 1 <= block <= self.count - 2
+
+    def reach(self, block, what):
+        if block in self.blocks:
+            raise Refused(3)
+        self.blocks[block] = what
+
+    def inode(self, file):
+        return 8 * self.leaves[file // 4] + 2 * (file % 4)
+
+    def survey_file(self, file):
+        at = self.inode(file)
+        root, size = self.board[at], self.board[at + 1]
+        if size > MOST:
+            raise Refused(3)
+        self.size[file] = size
+        self.cells[at] = (file, 0, size > 0)
+        if size == 0:
+            return
+        if root % 8 > 3:
+            raise Refused(3)
+        todo = [(root // 8, root % 8, 0)]
+        while todo:
+            block, height, base = todo.pop()
+            if block == 0:
+                continue
+            if not self.inside(block):
+                raise Refused(3)
+            if height == 0:
+                self.reach(block, ('data', file, base))
+                continue
+            self.reach(block, ('node', file, base, height))
+            for j in range(8):
+                start = base + j * SPAN[height - 1]
+                self.cells[8 * block + j] = (file, start, start < size)
+                if start < size:
+                    word = self.board[8 * block + j]
+                    if word % 8:
+                        raise Refused(3)
+                    todo.append((word // 8, height - 1, start))
+
+    def data(self, file):
+        return {what[2]: block for block, what in self.blocks.items() if what[:2] == ('data', file)}
+
+    def contents(self, file):
+        out = [0] * self.size[file]
+        for base, block in self.data(file).items():
+            held = [x for j in range(8) for x in bytes_of(self.board[8 * block + j])]
+            for i in range(64):
+                if base + i < len(out):
+                    out[base + i] = held[i]
+        return out
+
+
+def of_file(board, file):
+    survey = Survey(board)
+    if file > 31:
+        raise Refused(4)
+    return survey
+
+
+def answer(call):
+    try:
+        return call()
+    except Refused as refused:
+        return -refused.number
+
+
+def check(board):
+    return answer(lambda: Survey(board) and 0)
+
+
+def free_count(board):
+    return answer(lambda: len(Survey(board).free))
+
+
+def size(board, file):
+    return answer(lambda: of_file(board, file).size[file])
+
+
+def contents(board, file):
+    return of_file(board, file).contents(file)
+
+
+def read(board, file, offset, out):
+    """The answer and the buffer at exit."""
+    try:
+        got = contents(board, file)[offset:offset + len(out)]
+    except Refused as refused:
+        return -refused.number, list(out)
+    return len(got), got + list(out[len(got):])
+
+
+def walk(board, file, i):
+    """The block where the walk to byte i ends, None in a hole."""
+    return Survey(board).data(file).get(i // 64 * 64)
+
+
+def hidden(board, at, value):
+    survey = Survey(board)
+    block = at // 8
+    what = survey.blocks.get(block)
+    if block in survey.free:
+        return True
+    if what and what[0] == 'data':
+        first = what[2] + 8 * (at % 8)
+        below = survey.size[what[1]] - first
+        return bytes_of(board[at])[:max(0, below)] == bytes_of(value)[:max(0, below)]
+    return at in survey.cells and not survey.cells[at][2]
+
+
+def listing(image):
+    """What the lister prints."""
+    try:
+        if len(image) > 65536 or len(image) % 8:
+            raise Refused(1)
+        survey = Survey(words_of(image))
+    except Refused as refused:
+        return 'refused %d\n' % refused.number
+    lines = ['blocks %d free %d\n' % (survey.count, len(survey.free))]
+    for file in range(32):
+        if survey.size[file]:
+            height = survey.board[survey.inode(file)] % 8
+            lines.append('file %d size %d height %d data %d\n' % (file, survey.size[file], height, len(survey.data(file))))
+    return ''.join(lines)
+
+
+# ---- Planning
+
+
+def least(end):
+    return next(h for h in range(4) if end <= SPAN[h])
+
+
+class Write:
+    """The plan of one write: its pairs, how many fresh blocks it lacks, and the name of the way it went."""
+
+    def __init__(self, survey, file, offset, new):
+        self.survey, self.file, self.offset, self.new = survey, file, offset, new
+        self.size, self.end = survey.size[file], offset + len(new)
+        self.root_at = survey.inode(file)
+        self.pool, self.lacking = list(survey.free), 0
+        self.grown = {}
+        self.epochs = [[]]
+        self.way = 'empty'
+        if new:
+            self.way = self.grow() + self.place()
+
+    def pairs(self):
+        out = []
+        for i, epoch in enumerate(self.epochs):
+            out += ([(BARRIER, 0)] if i else []) + epoch
+        return out
+
+    def at(self, address):
+        return self.grown.get(address, self.survey.board[address] if address < len(self.survey.board) else 0)
+
+    def put(self, address, value):
+        self.epochs[-1].append((address, value))
+
+    def barrier(self):
+        self.epochs.append([])
+
+    def take(self, words):
+        """The lowest free block, filled."""
+        if not self.pool:
+            self.lacking += 1
+        block = self.pool.pop(0) if self.pool else 10**6 + self.lacking
+        for j in range(8):
+            self.put(8 * block + j, words[j])
+        return block
+
+    def grow(self):
+        root = self.at(self.root_at)
+        height, block = root % 8, root // 8
+        if self.size == 0 or self.end <= SPAN[height]:
+            return ''
+        to = least(self.end)
+        if block:
+            for _ in range(to - height):
+                words = [8 * block] + [0] * 7
+                block = self.take(words)
+                for j in range(8):
+                    self.grown[8 * block + j] = words[j]
+            self.barrier()
+        self.put(self.root_at, 8 * block + to)
+        self.grown[self.root_at] = 8 * block + to
+        self.barrier()
+        return ('grow%d ' if block else 'null%d ') % (to - height)
+
+    def path(self):
+        """The live pointers on the path to the offset, from the root: address, block, height, first byte."""
+        out = []
+        address, start = self.root_at, 0
+        height = self.at(address) % 8
+        while start < self.size:
+            block = self.at(address) // 8
+            out.append((address, block, height, start))
+            if block == 0 or height == 0:
+                break
+            j = (self.offset - start) // SPAN[height - 1]
+            address, height, start = 8 * block + j, height - 1, start + j * SPAN[height - 1]
+        return out
+
+    def fresh(self, block, height, start):
+        """A fresh tree for what is visible at `block`, 0 if nothing is, with the new bytes in it."""
+        if height == 0:
+            held = [0] * 64
+            for i in range(64):
+                x = start + i
+                if self.offset <= x < self.end:
+                    held[i] = self.new[x - self.offset]
+                elif x < self.size and block:
+                    held[i] = bytes_of(self.at(8 * block + i // 8))[i % 8]
+            return self.take([word_of(held[8 * j:8 * j + 8]) for j in range(8)])
+        words = []
+        for j in range(8):
+            child = start + j * SPAN[height - 1]
+            old = self.at(8 * block + j) if block and child < self.size else 0
+            written = child < self.end and self.offset < child + SPAN[height - 1]
+            words.append(8 * self.fresh(old // 8, height - 1, child) if written else old)
+        return self.take(words)
+
+    def place(self):
+        path = self.path()
+        home = path[-1] if path and path[-1][1] and path[-1][2] == 0 else None
+        if self.end <= self.size and self.offset // 8 == (self.end - 1) // 8 and home:
+            return self.single_word(home)
+        if self.offset == self.size and all(block for _, block, _, _ in path):
+            return self.tail(path, home)
+        if self.end <= self.size:
+            return self.inside()
+        return self.with_length()
+
+    def single_word(self, home):
+        address = 8 * home[1] + (self.offset - home[3]) // 8
+        held = bytes_of(self.at(address))
+        for i, x in enumerate(self.new):
+            held[(self.offset + i) % 8] = x
+        self.put(address, word_of(held))
+        return 'single word'
+
+    def tail(self, path, home):
+        others = []
+        if self.size == 0:
+            height = least(self.end)
+            others.append((0, self.root_at, 8 * self.fresh(0, height, 0) + height))
+        elif home:
+            for j in range(8):
+                first = home[3] + 8 * j
+                if self.offset < first + 8 and first < self.end:
+                    held = bytes_of(self.at(8 * home[1] + j))
+                    for i in range(8):
+                        if first + i >= self.offset:
+                            held[i] = self.new[first + i - self.offset] if first + i < self.end else 0
+                    others.append((first, 8 * home[1] + j, word_of(held)))
+        dead = []
+        for _, block, height, start in path:
+            for j in range(8 if height else 0):
+                child = start + j * SPAN[height - 1]
+                if self.size <= child < self.end:
+                    dead.append((child, 8 * block + j, height - 1))
+        for child, address, height in sorted(dead):
+            others.append((child, address, 8 * self.fresh(0, height, child)))
+        for _, address, value in sorted(others):
+            self.put(address, value)
+        self.barrier()
+        self.put(self.root_at + 1, self.end)
+        return 'tail' if self.size else 'empty tail'
+
+    def inside(self):
+        address, start = self.root_at, 0
+        word = self.at(address)
+        height = low = word % 8
+        while word // 8 and height:
+            j = (self.offset - start) // SPAN[height - 1]
+            if (self.end - 1 - start) // SPAN[height - 1] != j:
+                break
+            address, start, height, low = 8 * (word // 8) + j, start + j * SPAN[height - 1], height - 1, 0
+            word = self.at(address)
+        block = self.fresh(word // 8, height, start)
+        self.barrier()
+        self.put(address, 8 * block + low)
+        return 'inside at %s over height %d' % ('root' if address == self.root_at else 'pointer', height)
+
+    def with_length(self):
+        root = self.at(self.root_at)
+        block = self.fresh(root // 8, root % 8, 0)
+        old = self.survey.leaves[self.file // 4]
+        leaf = [self.at(8 * old + j) for j in range(8)]
+        leaf[2 * (self.file % 4)] = 8 * block + root % 8
+        leaf[2 * (self.file % 4) + 1] = self.end
+        copy = self.take(leaf)
+        self.barrier()
+        self.put(8 * self.survey.pointer_block + self.file // 4, 8 * copy)
+        return 'with length, height %d' % (root % 8)
+
+
+def length_pairs(survey, file, length):
+    old, board, at = survey.size[file], survey.board, survey.inode(file)
+    if length == old:
+        return []
+    if length < old:
+        return [(at + 1, length)]
+    first = [(0, at, 0)] if old == 0 else []
+    for block, what in survey.blocks.items():
+        if old and what[:2] == ('data', file) and what[2] <= old - 1 < what[2] + 64:
+            for j in range(8):
+                start = what[2] + 8 * j
+                if old < start + 8 and start < length:
+                    held = [x if start + i < old else 0 for i, x in enumerate(bytes_of(board[8 * block + j]))]
+                    first.append((start, 8 * block + j, word_of(held)))
+        if old and what[:2] == ('node', file):
+            for j in range(8):
+                start = survey.cells[8 * block + j][1]
+                if old <= start < length:
+                    first.append((start, 8 * block + j, 0))
+    out = [(address, value) for _, address, value in sorted(first)]
+    return out + ([(BARRIER, 0)] if out else []) + [(at + 1, length)]
+
+
+def format_pairs(count):
+    trailer = 8 * (count - 1)
+    out = [(trailer, 0), (BARRIER, 0)]
+    out += [(8 + j, 8 * (2 + j)) for j in range(8)] + [(a, 0) for a in range(16, 80)]
+    out += [(trailer + 1 + j, v) for j, v in enumerate([512, count, 1, 0, 0, 0, 0])]
+    return out + [(BARRIER, 0), (trailer, 9)]
+
+
+def planned(pairs, plan):
+    """The answer and the plan slice at exit."""
+    try:
+        laid = [x for pair in pairs() for x in pair]
+        if len(laid) > len(plan):
+            raise Refused(8)
+    except Refused as refused:
+        return -refused.number, list(plan)
+    return len(laid) // 2, laid + list(plan[len(laid):])
+
+
+def plan_write(board, file, offset, new):
+    survey = of_file(board, file)
+    if offset > survey.size[file]:
+        raise Refused(5)
+    if offset + len(new) > MOST:
+        raise Refused(6)
+    plan = Write(survey, file, offset, new)
+    if plan.lacking:
+        raise Refused(7)
+    return plan
+
+
+def write(board, file, offset, new, plan):
+    return planned(lambda: plan_write(board, file, offset, new).pairs(), plan)
+
+
+def set_length(board, file, length, plan):
+    def pairs():
+        survey = of_file(board, file)
+        if length > MOST:
+            raise Refused(6)
+        return length_pairs(survey, file, length)
+    return planned(pairs, plan)
+
+
+def format_board(board, plan):
+    def pairs():
+        word_count(board)
+        return format_pairs(len(board) // 8)
+    return planned(pairs, plan)
+
+
+def perform(board, plan, pairs):
+    """The answer and the board at exit."""
+    try:
+        word_count(board)
+        if 2 * pairs > len(plan):
+            raise Refused(9)
+        out = list(board)
+        for i in range(pairs):
+            address = plan[2 * i]
+            if address >= len(board) and address != BARRIER:
+                raise Refused(10)
+            if address != BARRIER:
+                out[address] = plan[2 * i + 1]
+    except Refused as refused:
+        return -refused.number, list(board)
+    return pairs, out

@@ -1,0 +1,365 @@
+#!/usr/bin/env python3
+"""Holds the definitions of crates/model against board.py, a model written apart from them.
+
+Makes boards with rubbish wherever the document allows it and calls that go every way of planning, has board.py say what each call
+answers and leaves, and has the prover compute the same from the definitions. The numbers are drawn from a fixed seed.
+
+    vectors.py [SEED [COUNT]]    COUNT random boards (default: seed 1, 8 boards)
+"""
+import os
+import random
+import re
+import shutil
+import subprocess
+import sys
+import tempfile
+
+import board as B
+
+ROOT = os.path.dirname(os.path.dirname(os.path.dirname(os.path.abspath(__file__))))
+FAULTS = ['', 'WordCount', 'Trailer', 'Damaged', 'FileNumber', 'Offset', 'End', 'FreeBlocks', 'PlanLength', 'PairCount', 'Address']
+HEAD = '''use mathlib.Core.Path.{_≡_, refl}
+use mathlib.Core.Bool.{Bool, true, false, cond, not, _&&_}
+use mathlib.Core.List.{List, [], _∷_, _++_}
+use Prim.Native.Nat.{ℕ}
+use lib.ListN.{replicate}
+use lib.IntN.{ℤ, pos, negsuc}
+use lib.Dec.{eqb}
+use Rattle.model.specs.declared.Answer.{Answer}
+use Rattle.model.specs.declared.Answer.the-variants.{Done, Refused}
+use Rattle.model.specs.declared.Fault.the-variants.{WordCount, Trailer, Damaged, FileNumber, Offset, End, FreeBlocks, PlanLength, PairCount, Address}
+use Rattle.model.specs.declared.WalkEnd.{WalkEnd}
+use Rattle.model.specs.declared.WalkEnd.the-variants.{Block, Hole}
+use Rattle.model.specs.Lists.{consIf}
+use Rattle.model.specs.Layout.{house}
+use Rattle.model.specs.Board.{walkTo, contents, free}
+use Rattle.model.specs.Store.{store}
+use Rattle.model.specs.Hidden.{hidden}
+use Rattle.model.specs.Calls.{checkAnswer, freeCountAnswer, sizeAnswer, readAnswer, readBuffer, Planned, write, setLength, format, performAnswer, performBoard}
+use Rattle.model.specs.Cabinet.{imageCheck, imageSize, imageRead, imageReadBuffer}
+use Rattle.model.specs.Lister.{listing}
+use Rattle.model.specs.Examples.{sameList, sameAnswer}
+use Rattle.model.proofs.Computing.{computes}
+
+samePlanned : Planned → Answer → List ℕ → Bool
+samePlanned p a slice = sameAnswer (p .answer) a && sameList (p .slice) slice
+
+sameInt : ℤ → ℤ → Bool
+sameInt (pos m) (pos n) = eqb m n
+sameInt (pos m) (negsuc n) = false
+sameInt (negsuc m) (pos n) = false
+sameInt (negsuc m) (negsuc n) = eqb m n
+
+sameEnd : WalkEnd → WalkEnd → Bool
+sameEnd Hole Hole = true
+sameEnd Hole (Block n) = false
+sameEnd (Block m) Hole = false
+sameEnd (Block m) (Block n) = eqb m n
+
+'''
+OPEN = 'unfolding computes sameAnswer sameList samePlanned sameInt sameEnd'
+
+
+def numbers(xs):
+    """A list in antt, its long runs as replicate."""
+    if not xs:
+        return '[]'
+    parts, i = [], 0
+    while i < len(xs):
+        j = i
+        while j < len(xs) and xs[j] == xs[i]:
+            j += 1
+        if j - i >= 8:
+            parts.append('replicate %d %d' % (j - i, xs[i]))
+        elif parts and parts[-1].endswith('∷ []'):
+            parts[-1] = parts[-1][:-2] + ' ∷ '.join(map(str, xs[i:j])) + ' ∷ []'
+        else:
+            parts.append(' ∷ '.join(map(str, xs[i:j])) + ' ∷ []')
+        i = j
+    return '(%s)' % ' ++ '.join('(%s)' % part for part in parts)
+
+
+def answer(n):
+    return '(Done %d)' % n if n >= 0 else '(Refused %s)' % FAULTS[-n]
+
+
+def signed(n):
+    return '(pos %d)' % n if n >= 0 else '(negsuc %d)' % (-n - 1)
+
+
+class Vectors:
+    def __init__(self):
+        self.boards, self.all, self.kinds = {}, [], {}
+
+    def board(self, words):
+        return self.boards.setdefault(tuple(words), 'b%d' % len(self.boards))
+
+    def add(self, kind, words, test):
+        name = self.board(words)
+        self.all.append((name, test.replace('BOARD', name)))
+        self.kinds[kind] = self.kinds.get(kind, 0) + 1
+
+    def planned(self, kind, words, call, args, room, model):
+        got, plan = model(words, *args, [7] * room)
+        args = ' '.join(numbers(x) if isinstance(x, list) else str(x) for x in args)
+        self.add(kind, words, 'samePlanned (%s house BOARD %s (replicate %d 7)) %s %s' % (call, args, room, answer(got), numbers(plan)))
+        return got
+
+    def write(self, words, file, offset, new, short=False):
+        try:
+            room = 2 * len(B.plan_write(words, file, offset, new).pairs())
+        except B.Refused:
+            room = 10
+        self.planned('write', words, 'write', [file, offset, new], max(0, room - 1) if short else room, B.write)
+
+    def length(self, words, file, length):
+        room = 2 * max(0, B.set_length(words, file, length, [0] * 2000)[0])
+        self.planned('length', words, 'setLength', [file, length], room, B.set_length)
+
+    def format(self, words, room):
+        self.planned('format', words, 'format', [], room, B.format_board)
+
+    def check(self, words):
+        self.add('check', words, 'sameAnswer (checkAnswer house BOARD) %s && sameAnswer (freeCountAnswer house BOARD) %s'
+                 % (answer(B.check(words)), answer(B.free_count(words))))
+
+    def size(self, words, file):
+        self.add('size', words, 'sameAnswer (sizeAnswer house BOARD %d) %s' % (file, answer(B.size(words, file))))
+
+    def contents(self, words, file):
+        self.add('contents', words, 'sameList (contents house BOARD %d) %s' % (file, numbers(B.contents(words, file))))
+
+    def read(self, words, file, offset, out):
+        got, buffer = B.read(words, file, offset, out)
+        args = '%d %d %s' % (file, offset, numbers(out))
+        self.add('read', words, 'sameAnswer (readAnswer house BOARD %s) %s && sameList (readBuffer house BOARD %s) %s'
+                 % (args, answer(got), args, numbers(buffer)))
+
+    def walk(self, words, file, i):
+        block = B.walk(words, file, i)
+        self.add('walk', words, 'sameEnd (walkTo house BOARD %d %d) %s' % (file, i, '(Block %d)' % block if block else 'Hole'))
+
+    def hidden(self, words, at, value):
+        test = 'hidden house BOARD (store %d %d)' % (at, value)
+        self.add('hidden', words, test if B.hidden(words, at, value) else 'not (%s)' % test)
+
+    def perform(self, words, plan, pairs):
+        got, left = B.perform(words, plan, pairs)
+        args = '%s %d' % (numbers(plan), pairs)
+        self.add('perform', words, 'sameAnswer (performAnswer house BOARD %s) %s && sameList (performBoard house BOARD %s) %s'
+                 % (args, answer(got), args, numbers(left)))
+
+    def image(self, image, file, offset, out):
+        words = B.words_of(image)
+        odd = len(image) % 8
+        got, buffer = (-1, out) if odd else B.read(words, file, offset, out)
+        args = '%d %d %s' % (file, offset, numbers(out))
+        self.add('image', image, 'sameInt (imageCheck house BOARD) %s && sameInt (imageSize house BOARD %d) %s && sameInt (imageRead house BOARD %s) %s'
+                 ' && sameList (imageReadBuffer house BOARD %s) %s && sameList (listing house BOARD) %s'
+                 % (signed(-1 if odd else B.check(words)), file, signed(-1 if odd else B.size(words, file)), args, signed(got), args,
+                    numbers(buffer), numbers(list(B.listing(image).encode()))))
+
+
+# ---- Boards
+
+
+def rubbish(rnd, count):
+    return rnd.choice([rnd.getrandbits(64), 8 * rnd.randrange(1, count), rnd.randrange(8 * count + 40)])
+
+
+def made(rnd, count, file, height, size, exists):
+    """A board with one file, whose live pointer over height h at byte x leads to a block where exists(h, x); rubbish elsewhere."""
+    words = [rubbish(rnd, count) for _ in range(8 * count)]
+    pool = list(range(1, count - 1))
+    rnd.shuffle(pool)
+    pointers, leaves = pool.pop(), [pool.pop() for _ in range(8)]
+    words[8 * (count - 1):] = [8 * pointers + 1, 512, count, 1, 0, 0, 0, 0]
+    words[8 * pointers:8 * pointers + 8] = [8 * leaf for leaf in leaves]
+    for f in range(32):
+        words[8 * leaves[f // 4] + 2 * (f % 4) + 1] = size if f == file else 0
+
+    def tree(h, start):
+        if start >= size:
+            return rubbish(rnd, count)
+        if not exists(h, start):
+            return 0
+        block = pool.pop()
+        for j in range(8 if h else 0):
+            words[8 * block + j] = tree(h - 1, start + j * B.SPAN[h - 1])
+        return 8 * block
+
+    if size:
+        words[8 * leaves[file // 4] + 2 * (file % 4)] = tree(height, 0) + height
+    assert B.check(words) == 0
+    return words
+
+
+def some_board(rnd):
+    """A board, with the file it holds."""
+    while True:
+        count, file, height = rnd.choice([16, 18, 24, 40]), rnd.randrange(32), rnd.choice([0, 1, 1, 2, 2, 3])
+        size = rnd.choice([0, 1, 8, 63, 64, 65, 128, 130, 448, 500, 512, 513, 700, 4096, 4100, 32768])
+        holes = rnd.choice([0, 0, 0.3, 1])
+        along = rnd.random() < 0.5
+
+        def exists(h, start):
+            return start <= size - 1 < start + B.SPAN[h] if along else rnd.random() >= holes
+        try:
+            return made(rnd, count, file, height, size, exists), file
+        except IndexError:
+            continue
+
+
+# ---- Vectors
+
+
+def every_way(vectors, rnd, tries=4000):
+    """One write for each way of planning that is met."""
+    ways = {}
+    for _ in range(tries):
+        words, file = some_board(rnd)
+        size = B.size(words, file)
+        offset = rnd.choice([size, size, max(0, size - rnd.randrange(1, 70)), rnd.randrange(size + 1)])
+        new = [rnd.randrange(256) for _ in range(rnd.choice([1, 2, 7, 8, 9, 60, 64, 65, 130, 450, 520]))]
+        try:
+            plan = B.plan_write(words, file, offset, new)
+        except B.Refused:
+            continue
+        if len(plan.pairs()) < ways.get(plan.way, (10**9,))[0]:
+            ways[plan.way] = (len(plan.pairs()), words, file, offset, new)
+    for way in sorted(ways):
+        _, words, file, offset, new = ways[way]
+        vectors.write(words, file, offset, new)
+    for want in ['single word', 'tail', 'empty tail', 'grow1 tail', 'grow2 tail'] + ['inside at root over height %d' % h for h in range(4)] \
+            + ['inside at pointer over height %d' % h for h in range(3)] + ['with length, height %d' % h for h in range(4)] \
+            + ['null%d inside at root over height 3' % d for d in (1, 2, 3)] + ['grow3 inside at pointer over height 2']:
+        assert want in ways, 'no write went the way: ' + want
+    return len(ways)
+
+
+def null_on_path(vectors, rnd):
+    """Writes at the end of a file whose path is null from some height down: a tail only where no live pointer is."""
+    for height, size in [(1, 64), (1, 70), (2, 64), (2, 576), (2, 512), (2, 600), (3, 576), (3, 4160), (3, 4608), (3, 4096)]:
+        for low in range(height + 1):
+            def exists(h, start):
+                return h >= low and start <= size < start + B.SPAN[h]
+            file = rnd.randrange(32)
+            vectors.write(made(rnd, 24, file, height, size, exists), file, size, [rnd.randrange(256)])
+
+
+def each_damage(vectors, rnd):
+    """A board with one word made another: in the trailer, an inode pointer, a size, a root, a live and a dead pointer."""
+    words = made(rnd, 24, 9, 2, 700, lambda h, start: h > 0 or start in (0, 512))
+    survey = B.Survey(words)
+    root = survey.inode(9)
+    live = [at for at, (_, _, is_live) in survey.cells.items() if is_live and at != root]
+    dead = [at for at, (_, _, is_live) in survey.cells.items() if not is_live and at // 8 not in survey.leaves]
+    pointer, last, twice = 8 * survey.pointer_block + 2, 8 * (survey.count - 1), 8 * survey.leaves[3]
+    changes = [(last + j, words[last + j] + 1) for j in range(8)] + [(last, words[last] + 8 * survey.count), (last, 1)]
+    changes += [(pointer, v) for v in (0, words[pointer] + 1, words[pointer] + 4, last, twice)]
+    changes += [(root + 1, v) for v in (701, 32768, 32769, 2**64 - 1)] + [(root, v) for v in (words[root] + 2, 4, last + 2, twice + 2, 2)]
+    changes += [(at, v) for at in live[:2] + live[-1:] for v in (words[at] + 1, words[at] + 4, last, twice, 0)] + [(dead[0], twice + 3)]
+    for at, value in changes:
+        vectors.check(words[:at] + [value] + words[at + 1:])
+    for size in (32768, 32769):
+        vectors.check(words[:root] + [3, size] + words[root + 2:])
+
+
+def bench(vectors):
+    """E13's board and its image, whole and cut short."""
+    words = [7] * 128
+    for call in (lambda b: B.format_board(b, [0] * 166), lambda b: B.write(b, 0, 0, [65, 66], [0] * 22)):
+        pairs, plan = call(words)
+        words = B.perform(words, plan, pairs)[1]
+    image = B.image_of(words)
+    assert B.listing(image) == 'blocks 16 free 4\nfile 0 size 2 height 0 data 1\n'
+    for part in (image, image[:-1], image[:960], image[:7], []):
+        vectors.image(part, 0, 1, [9, 9, 9])
+
+
+def at_random(vectors, rnd, count):
+    for _ in range(count):
+        words, file = some_board(rnd)
+        size = B.size(words, file)
+        new = [rnd.randrange(256) for _ in range(rnd.randrange(100))]
+        vectors.write(words, file, min(size, rnd.choice([size, size // 2])), new, short=rnd.random() < 0.3)
+        vectors.write(words, rnd.choice([file, 31, 32, 2**64 - 1]), rnd.choice([size + 1, size, 0, 2**64 - 1]), new[:3])
+        vectors.length(words, file, rnd.choice([0, 1, size, size + 1, size + 70, max(0, size - 1), 4097, 32768, 32769, 2**64 - 1]))
+        vectors.check(words)
+        vectors.size(words, rnd.choice([file, 31, 32]))
+        if size < 800:
+            vectors.contents(words, file)
+            vectors.read(words, file, rnd.choice([0, 1, size // 2, size, size + 1, 2**64 - 1]), [9] * rnd.choice([0, 1, 8, 70]))
+        vectors.walk(words, file, rnd.choice([0, 63, 64, size, max(0, size - 1), 5000, 2**64 - 1]))
+        survey = B.Survey(words)
+        at = rnd.choice(list(survey.cells) + [8 * k + rnd.randrange(8) for k in list(survey.blocks) + survey.free[:3]])
+        vectors.hidden(words, at, rnd.choice([words[at], words[at] ^ (1 << rnd.randrange(64)), rnd.getrandbits(64)]))
+        pairs, plan = B.write(words, file, size, new[:9], [5] * 400)
+        if pairs > 0:
+            vectors.perform(words, plan[:2 * pairs], rnd.choice([pairs, pairs, pairs // 2, pairs + 1, 2**64 - 1]))
+        vectors.perform(words, [8, 3, B.BARRIER, 5, len(words) - rnd.randrange(2), 1], 3)
+        vectors.format(words[:rnd.choice([len(words), 120, len(words) - 1])], rnd.choice([166, 170, 165]))
+
+
+# ---- The prover
+
+
+def text_of(vectors, chosen):
+    """A file with a theorem for each chosen vector."""
+    names = {name: words for words, name in vectors.boards.items()}
+    text = HEAD
+    for name in sorted({vectors.all[i][0] for i in chosen}):
+        text += '%s : List ℕ\n%s = %s\n\n' % (name, name, numbers(list(names[name])))
+    for i in chosen:
+        name, test = vectors.all[i]
+        text += 'v%d : (%s) ≡ true\n%s %s\nv%d = refl\n\n' % (i, test, OPEN, name, i)
+    return text
+
+
+def prove(vectors, crates=2):
+    """What the prover says of the vectors as theorems, in some crates side by side over a copy of the definitions."""
+    texts = {'model/proofs/Lib.antt': 'pub mod Computing\n'}
+    listed = 'model:\n'
+    for c in range(crates):
+        listed += 'vectors%d: model\n' % c
+        texts['vectors%d/src/lib.rt' % c] = 'pub const PART: usize = %d;\n' % c
+        texts['vectors%d/proofs/Lib.antt' % c] = 'pub mod Vectors\n'
+        texts['vectors%d/proofs/Vectors.antt' % c] = text_of(vectors, range(c, len(vectors.all), crates))
+    place = tempfile.mkdtemp()
+    try:
+        for part in ('src', 'specs', 'proofs/Computing.antt'):
+            source, target = os.path.join(ROOT, 'crates/model', part), os.path.join(place, 'crates/model', part)
+            os.makedirs(os.path.dirname(target), exist_ok=True)
+            (shutil.copytree if os.path.isdir(source) else shutil.copy)(source, target)
+        for name, text in dict(texts, **{'../crates.txt': listed}).items():
+            path = os.path.join(place, 'crates', name)
+            os.makedirs(os.path.dirname(path), exist_ok=True)
+            with open(path, 'w') as file:
+                file.write(text)
+        done = subprocess.run(['rt', 'check'], cwd=place, capture_output=True, text=True, env=dict(os.environ, RT_CUT='0'))
+        return done.returncode, done.stdout + done.stderr
+    finally:
+        shutil.rmtree(place)
+
+
+def main():
+    seed, count = (list(map(int, sys.argv[1:])) + [1, 8][len(sys.argv) - 1:])[:2]
+    rnd = random.Random(seed)
+    vectors = Vectors()
+    ways = every_way(vectors, rnd)
+    null_on_path(vectors, rnd)
+    each_damage(vectors, rnd)
+    bench(vectors)
+    at_random(vectors, rnd, count)
+    status, said = prove(vectors)
+    failed = sorted({int(i) for i in re.findall(r'error: `v(\d+)`', said)})
+    for i in failed:
+        print('vector %d fails: %s' % (i, vectors.all[i][1][:300]))
+    if status and not failed:
+        sys.exit(said[-3000:] + 'vectors: the prover did not come to them')
+    print('vectors: %d computed from the definitions as the reference model has them, %d not; %d ways of planning; %s'
+          % (len(vectors.all) - len(failed), len(failed), ways, ', '.join('%s %d' % kind for kind in sorted(vectors.kinds.items()))))
+    sys.exit(1 if status else 0)
+
+
+main()
