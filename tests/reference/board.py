@@ -1,7 +1,7 @@
-"""A model of the cabinet memory board in Python, written from document 01 alone and apart from the definitions in crates/model.
+"""A model of the cabinet memory board in Python, from document 01 (docs/DECISIONS.md says how far apart from the definitions).
 
-It surveys a board into dictionaries and plans with explicit loops, so that an error is not likely to be made twice. Answers are
-numbers, a refusal r is -r. vectors.py holds the definitions against it.
+It surveys a board into dictionaries and plans with explicit loops, where the definitions in crates/model recurse, so that an error is
+not likely to be made twice. Answers are numbers, a refusal r is -r. vectors.py holds the definitions against it.
 """
 
 BARRIER = 2**64 - 1

@@ -1,8 +1,8 @@
 #!/usr/bin/env python3
-"""Holds the definitions of crates/model against board.py, a model written apart from them.
+"""Holds the definitions of crates/model against board.py, a second model of document 01.
 
-Makes boards with rubbish wherever the document allows it and calls that go every way of planning, has board.py say what each call
-answers and leaves, and has the prover compute the same from the definitions. The numbers are drawn from a fixed seed.
+Makes boards with rubbish wherever the document allows it, has board.py say what calls on them answer and leave, and has the prover
+compute the same from the definitions. Among the calls is one for each way of planning that is met. The numbers are drawn from a seed.
 
     vectors.py [SEED [COUNT]]    COUNT random boards (default: seed 1, 8 boards)
 """
@@ -19,7 +19,7 @@ import board as B
 ROOT = os.path.dirname(os.path.dirname(os.path.dirname(os.path.abspath(__file__))))
 FAULTS = ['', 'WordCount', 'Trailer', 'Damaged', 'FileNumber', 'Offset', 'End', 'FreeBlocks', 'PlanLength', 'PairCount', 'Address']
 HEAD = '''use mathlib.Core.Path.{_≡_, refl}
-use mathlib.Core.Bool.{Bool, true, false, cond, not, _&&_}
+use mathlib.Core.Bool.{Bool, true, false, not, _&&_}
 use mathlib.Core.List.{List, [], _∷_, _++_}
 use Prim.Native.Nat.{ℕ}
 use lib.ListN.{replicate}
@@ -30,9 +30,8 @@ use Rattle.model.specs.declared.Answer.the-variants.{Done, Refused}
 use Rattle.model.specs.declared.Fault.the-variants.{WordCount, Trailer, Damaged, FileNumber, Offset, End, FreeBlocks, PlanLength, PairCount, Address}
 use Rattle.model.specs.declared.WalkEnd.{WalkEnd}
 use Rattle.model.specs.declared.WalkEnd.the-variants.{Block, Hole}
-use Rattle.model.specs.Lists.{consIf}
 use Rattle.model.specs.Layout.{house}
-use Rattle.model.specs.Board.{walkTo, contents, free}
+use Rattle.model.specs.Board.{walkTo, contents}
 use Rattle.model.specs.Store.{store}
 use Rattle.model.specs.Hidden.{hidden}
 use Rattle.model.specs.Calls.{checkAnswer, freeCountAnswer, sizeAnswer, readAnswer, readBuffer, Planned, write, setLength, format, performAnswer, performBoard}
@@ -266,11 +265,15 @@ def each_damage(vectors, rnd):
 
 
 def bench(vectors):
-    """E13's board and its image, whole and cut short."""
+    """E10 and E12 on E2's board, a write of no bytes among them; E13's image, whole and cut short."""
     words = [7] * 128
     for call in (lambda b: B.format_board(b, [0] * 166), lambda b: B.write(b, 0, 0, [65, 66], [0] * 22)):
         pairs, plan = call(words)
         words = B.perform(words, plan, pairs)[1]
+    for offset, new in [(0, []), (2, []), (3, []), (2, [9]), (3, [9]), (2, [9] * 32767)]:
+        vectors.write(words, 0, offset, new)
+    for length in (32768, 32769):
+        vectors.length(words, 0, length)
     image = B.image_of(words)
     assert B.listing(image) == 'blocks 16 free 4\nfile 0 size 2 height 0 data 1\n'
     for part in (image, image[:-1], image[:960], image[:7], []):

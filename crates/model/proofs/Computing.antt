@@ -13,7 +13,7 @@ use Rattle.model.specs.Change.{levelPage, levelBelow, levels, levelTop, 
 use Rattle.model.specs.Format.{inodePage, formatPages, trailerAddress, trailerStores, formatPlan}
 use Rattle.model.specs.Answers.{number, signed, answered, unlessRefused, counted}
 use Rattle.model.specs.Calls.{wordCountFault, boardFaults, fileFaults, checkAnswer, freeCountAnswer, sizeAnswer, readCount, readAnswer, readBuffer, planned, lowest, writeFaults, write, setLength, format, performFaults, performAnswer, performBoard}
-use Rattle.model.specs.Cabinet.{imageFaults, imageCheck, imageSize, imageReadAnswer, imageRead, imageReadBuffer}
+use Rattle.model.specs.Cabinet.{imageFaults, imageCheckAnswer, imageCheck, imageSize, imageReadAnswer, imageRead, imageReadBuffer}
 use Rattle.model.specs.Lister.{dataBlocks, digits, decimal, field, line, fileLine, boardLines, answerLines, listing}
 use Rattle.model.specs.Cut.{fileOf, called, planOf, altered, after, chosen, standing, lastArrived}
 
@@ -32,7 +32,7 @@ unfolding tabulate joined sum every some all consIf filter concat pickFrom membe
     inodePage formatPages trailerAddress trailerStores formatPlan
     number signed answered unlessRefused counted
     wordCountFault boardFaults fileFaults checkAnswer freeCountAnswer sizeAnswer readCount readAnswer readBuffer planned lowest writeFaults write setLength format performFaults performAnswer performBoard
-    imageFaults imageCheck imageSize imageReadAnswer imageRead imageReadBuffer
+    imageFaults imageCheckAnswer imageCheck imageSize imageReadAnswer imageRead imageReadBuffer
     dataBlocks digits decimal field line fileLine boardLines answerLines listing
     fileOf called planOf altered after chosen standing lastArrived
 computes = tt

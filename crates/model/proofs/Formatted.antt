@@ -44,6 +44,11 @@ counted g fit b ok =
       below = omega (arith, fit .addresses-fit, leb→le (length b) (g .most * g .words) (and-right low high both));
     }
 
+-- boards of one length have as many blocks
+count-same : (g : Layout) (b b′ : List ℕ) → length b′ ≡ length b → blockCount g b′ ≡ blockCount g b
+unfolding blockCount
+count-same g b b′ e = ap (λ (x : ℕ). x / g .words) e
+
 -- what format leaves on b′ in place of b
 pub record Formatted (g : Layout) (b b′ : List ℕ) : Type 0 where
   pub lengths : length b′ ≡ length b
@@ -69,8 +74,7 @@ module _ (g : Layout) (fit : Fits g) (b b′ : List ℕ) (ok : T (wordCountSound
   pos = omega (arith, fit .trailer-fits)
 
   same-count : blockCount g b′ ≡ blockCount g b
-  unfolding blockCount
-  same-count = ap (λ (x : ℕ). x / g .words) (p .lengths)
+  same-count = count-same g b b′ (p .lengths)
 
   inode-block : inodeBlock g b′ ≡ 1
   unfolding inodeBlock
@@ -155,6 +159,16 @@ unfolding stepEpochs
 step-epochs [] c l = absurd (omega arith)
 step-epochs (s ∷ ss) c l = refl
 
+-- the stores of the plan: word 0 of the trailer becomes 0, its word i + 1 is stored, and word 0 commits
+abbrev clears : Layout → List ℕ → Store
+clears g b = store (trailerAddress g b 0) 0
+
+abbrev trailerStore : Layout → List ℕ → ℕ → Store
+trailerStore g b i = store (trailerAddress g b (suc i)) (trailerWord g (blockCount g b) (suc i))
+
+abbrev commits : Layout → List ℕ → Store
+commits g b = store (trailerAddress g b 0) (g .words + 1)
+
 -- the middle epoch: pages, then trailer words
 pages : Layout → List Store
 pages g = stored (g .words) (λ c. c) (formatPages g) 1
@@ -175,7 +189,7 @@ module _ (g : Layout) (fit : Fits g) (b : List ℕ) where
         arith,
         fit .trailer-fits,
         length-stored (g .words) (λ c. c) (formatPages g) 1,
-        length-tabulate (g .words - 1) (λ j. store (trailerAddress g b (suc j)) (trailerWord g (blockCount g b) (suc j))),
+        length-tabulate (g .words - 1) (trailerStore g b),
         ap (λ (x : ℕ). g .words * x) (length-pages g),
         mul-suc (g .words) (g .leaves),
         mul-add (g .words) (g .leaves) 2,
@@ -186,14 +200,14 @@ module _ (g : Layout) (fit : Fits g) (b : List ℕ) where
   filling-some = omega (arith, length-filling, fit .trailer-fits, mul-add (g .words) (g .leaves) 2)
 
   -- the epochs of the plan
-  format-epochs : planEpochs (formatPlan g b .steps) ≡ (store (trailerAddress g b 0) 0 ∷ []) ∷ filling g b ∷ (store (trailerAddress g b 0) (g .words + 1) ∷ []) ∷ []
+  format-epochs : planEpochs (formatPlan g b .steps) ≡ (clears g b ∷ []) ∷ filling g b ∷ (commits g b ∷ []) ∷ []
   unfolding formatPlan plan step planEpochs stepEpochs filling pages
-  format-epochs = ap (λ (r : List (List Store)). (store (trailerAddress g b 0) 0 ∷ []) ∷ (r ++ [])) (step-epochs (filling g b) (store (trailerAddress g b 0) (g .words + 1)) filling-some)
+  format-epochs = ap (λ (r : List (List Store)). (clears g b ∷ []) ∷ (r ++ [])) (step-epochs (filling g b) (commits g b) filling-some)
 
   -- *Its plan has 83 pairs*
   pub format-pairs : length (pairs (formatPlan g b)) ≡ g .words * (g .leaves + 2) + 3
   unfolding pairs fenced
-  format-pairs = rw format-epochs (omega (arith, length-append (filling g b) (barrier ∷ store (trailerAddress g b 0) (g .words + 1) ∷ []), length-filling, fit .trailer-fits, mul-add (g .words) (g .leaves) 2))
+  format-pairs = rw format-epochs (omega (arith, length-append (filling g b) (barrier ∷ commits g b ∷ []), length-filling, fit .trailer-fits, mul-add (g .words) (g .leaves) 2))
 
 module _ (g : Layout) (fit : Fits g) (b : List ℕ) (ok : T (wordCountSound g b)) where
   start : List ℕ
@@ -249,7 +263,7 @@ module _ (g : Layout) (fit : Fits g) (b : List ℕ) (ok : T (wordCountSound g b)
   stay k j u l =
       getD-set-other trailed (trailerAddress g b 0) (g .words * k + j) (g .words + 1) 0 (trailer-away k j u l 0 (omega arith))
       ∙ performed-away paged (trailerStores g b) (g .words * k + j) (
-      all-tabulate (λ s. g .words * k + j ≢ s .at) (g .words - 1) (λ i. store (trailerAddress g b (suc i)) (trailerWord g (blockCount g b) (suc i)))
+      all-tabulate (λ s. g .words * k + j ≢ s .at) (g .words - 1) (trailerStore g b)
       (λ i m. trailer-away k j u l (suc i) (omega arith))
       )
 
@@ -265,12 +279,11 @@ module _ (g : Layout) (fit : Fits g) (b : List ℕ) (ok : T (wordCountSound g b)
   unfolding done trailed trailerStores store trailerAddress
   trailer-held j l =
       getD-set-other trailed (trailerAddress g b 0) (trailerAddress g b (suc j)) (g .words + 1) 0 (omega arith)
-      ∙ performed-tabulate paged (g .words - 1) (λ i. store (trailerAddress g b (suc i)) (trailerWord g (blockCount g b) (suc i)))
+      ∙ performed-tabulate paged (g .words - 1) (trailerStore g b)
       (λ i m. omega (arith, length-paged, trailer-on (suc i) (omega arith))) (λ x y v w. omega arith) j (omega arith)
 
   same-blocks : blockCount g done ≡ blockCount g b
-  unfolding blockCount
-  same-blocks = ap (λ (x : ℕ). x / g .words) length-done
+  same-blocks = count-same g b done length-done
 
   root-held : getD done (trailerAddress g b 0) 0 ≡ g .words + 1
   unfolding done
@@ -304,14 +317,14 @@ module _ (g : Layout) (fit : Fits g) (b : List ℕ) (ok : T (wordCountSound g b)
   unfolding filling pages trailerStores store
   filling-plain = all-append (λ s. s .at ≢ 2 ^ 64 - 1) (pages g) (trailerStores g b)
       (stored-blocks (g .words) (λ c. c) (λ x. x ≢ 2 ^ 64 - 1) (formatPages g) 1 (λ i j u v l. below (g .words * i + j) (on-board i j (omega (arith, length-pages g, fit .format-fits, size-of .blocks-least)) l)))
-      (all-tabulate (λ s. s .at ≢ 2 ^ 64 - 1) (g .words - 1) (λ i. store (trailerAddress g b (suc i)) (trailerWord g (blockCount g b) (suc i)))
+      (all-tabulate (λ s. s .at ≢ 2 ^ 64 - 1) (g .words - 1) (trailerStore g b)
       (λ i m. below (trailerAddress g b (suc i)) (trailer-on (suc i) (omega arith))))
 
-  format-stores : stores (pairs (formatPlan g b)) ≡ store (trailerAddress g b 0) 0 ∷ (filling g b ++ (store (trailerAddress g b 0) (g .words + 1) ∷ []))
+  format-stores : stores (pairs (formatPlan g b)) ≡ clears g b ∷ (filling g b ++ (commits g b ∷ []))
   unfolding pairs concat All store
   format-stores =
       let first : trailerAddress g b 0 ≢ 2 ^ 64 - 1 = below (trailerAddress g b 0) (trailer-on 0 (omega (arith, fit .trailer-fits))) in
-      rw (format-epochs g fit b) (stores-fenced ((store (trailerAddress g b 0) 0 ∷ []) ∷ filling g b ∷ (store (trailerAddress g b 0) (g .words + 1) ∷ []) ∷ [])
+      rw (format-epochs g fit b) (stores-fenced ((clears g b ∷ []) ∷ filling g b ∷ (commits g b ∷ []) ∷ [])
       ((first, tt), (filling-plain, ((first, tt), tt))))
 
   -- format's stores, all performed
@@ -319,7 +332,7 @@ module _ (g : Layout) (fit : Fits g) (b : List ℕ) (ok : T (wordCountSound g b)
   unfolding performed start paged trailed done filling store
   performed-done = rw (
     format-stores,
-    performed-append (set b (trailerAddress g b 0) 0) (filling g b) (store (trailerAddress g b 0) (g .words + 1) ∷ []),
+    performed-append (set b (trailerAddress g b 0) 0) (filling g b) (commits g b ∷ []),
     performed-append (set b (trailerAddress g b 0) 0) (pages g) (trailerStores g b),
   )
 

@@ -114,19 +114,23 @@ block-on W k B l = omega (arith, mul-le-mul-left W l, mul-suc W k)
 pub blocks-differ : (W k k′ j j′ : ℕ) → j < W → j′ < W → k ≢ k′ → W * k + j ≢ W * k′ + j′
 blocks-differ W k k′ j j′ l l′ d e = d (sym (address-block W k j l) ∙ ap (λ (x : ℕ). x / W) e ∙ address-block W k′ j′ l′)
 
+-- word j of a page, stored to block k
+abbrev pub pageStore : ℕ → ℕ → Page → ℕ → Store
+pageStore W k p j = store (W * k + j) (p j)
+
 module _ (W : ℕ) (fresh : ℕ → ℕ) where
   pub length-stored : (ps : List Page) (c : ℕ) → length (stored W fresh ps c) ≡ W * length ps
   unfolding stored
   length-stored [] c = sym (mul-zero W)
-  length-stored (p ∷ ps) c = rw (length-append (tabulate W (λ j. store (W * fresh c + j) (p j))) (stored W fresh ps (suc c)))
-      (omega (arith, length-tabulate W (λ j. store (W * fresh c + j) (p j)), length-stored ps (suc c), mul-suc W (length ps)))
+  length-stored (p ∷ ps) c = rw (length-append (tabulate W (pageStore W (fresh c) p)) (stored W fresh ps (suc c)))
+      (omega (arith, length-tabulate W (pageStore W (fresh c) p), length-stored ps (suc c), mul-suc W (length ps)))
 
   -- they go to the fresh blocks
   pub stored-blocks : (P : ℕ → Type 0) (ps : List Page) (c : ℕ) → ((i j : ℕ) → c ≤ i → i < c + length ps → j < W → P (W * fresh i + j)) → All (λ s. P (s .at)) (stored W fresh ps c)
   unfolding stored All store
   stored-blocks P [] c p = tt
-  stored-blocks P (f ∷ ps) c p = all-append (λ s. P (s .at)) (tabulate W (λ j. store (W * fresh c + j) (f j))) (stored W fresh ps (suc c))
-      (all-tabulate (λ s. P (s .at)) W (λ j. store (W * fresh c + j) (f j)) (λ j l. p c j (omega arith) (omega arith) l))
+  stored-blocks P (f ∷ ps) c p = all-append (λ s. P (s .at)) (tabulate W (pageStore W (fresh c) f)) (stored W fresh ps (suc c))
+      (all-tabulate (λ s. P (s .at)) W (pageStore W (fresh c) f) (λ j l. p c j (omega arith) (omega arith) l))
       (stored-blocks P ps (suc c) (λ i j u v l. p i j (omega arith) (omega arith) l))
 
   -- and once they are performed, those blocks hold the pages
@@ -136,14 +140,14 @@ module _ (W : ℕ) (fresh : ℕ → ℕ) where
   unfolding stored cell store
   stored-cell b [] c on differ i j u l = absurd (omega arith)
   stored-cell b (p ∷ ps) c on differ zero j u l =
-      let s : ℕ → Store = λ i. store (W * fresh c + i) (p i) in
+      let s : ℕ → Store = pageStore W (fresh c) p in
       rw (add-zero c, performed-append b (tabulate W s) (stored W fresh ps (suc c))) (
       performed-away (performed b (tabulate W s)) (stored W fresh ps (suc c)) (W * fresh c + j) (
       stored-blocks (λ x. W * fresh c + j ≢ x) ps (suc c) (λ i i′ v w m. blocks-differ W (fresh c) (fresh i) j i′ l m (differ c i (omega arith) (omega arith) (omega arith)))
       ) ∙ performed-tabulate b W s (λ i m. omega (arith, on c (omega arith) (omega arith))) (λ i i′ v w. omega arith) j l
       )
   stored-cell b (p ∷ ps) c on differ (suc i) j u l =
-      let s : ℕ → Store = λ i. store (W * fresh c + i) (p i) in
+      let s : ℕ → Store = pageStore W (fresh c) p in
       rw (add-suc c i, ← suc-add c i, performed-append b (tabulate W s) (stored W fresh ps (suc c))) (
       stored-cell (performed b (tabulate W s)) ps (suc c)
       (λ k v w. omega (arith, on k (omega arith) (omega arith), length-performed b (tabulate W s)))

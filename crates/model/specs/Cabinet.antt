@@ -18,9 +18,13 @@ unfoldable pub imageFaults : List ℕ → Faults
 imageFaults image = (WordCount, not (eqb (length image % 8) 0)) ∷ []
 
 module _ (g : Layout) (image : List ℕ) where
-  -- check
+  -- check, as an answer
+  unfoldable pub imageCheckAnswer : Answer
+  imageCheckAnswer = answered (imageFaults image ++ boardFaults g (wordsOf image)) 0
+
+  -- and as C gets it
   unfoldable pub imageCheck : ℤ
-  imageCheck = signed (answered (imageFaults image ++ boardFaults g (wordsOf image)) 0)
+  imageCheck = signed imageCheckAnswer
 
   -- size
   unfoldable pub imageSize : ℕ → ℤ

@@ -1,11 +1,11 @@
--- What document 01 promises of these definitions, as statements. A theorem of proofs/ is a proof of one of them.
+-- What document 01 promises of these definitions, as statements. README says which are proved, and where.
 use mathlib.Core.Path.{_≡_}
 use mathlib.Core.Logic.{_≢_, _⊎_, _↔_}
 use mathlib.Core.Bool.{Bool}
 use mathlib.Core.List.{List, [], map}
 use Prim.Native.Nat.{ℕ, _/_, _<_}
 use lib.ListN.{length, drop}
-use lib.Dec.{T, ltb}
+use lib.Dec.{T, leb, ltb}
 use Rattle.model.specs.declared.Answer.the-variants.{Refused}
 use Rattle.model.specs.declared.Fault.the-variants.{Trailer}
 use Rattle.model.specs.Lists.{all, distinct}
@@ -15,20 +15,27 @@ use Rattle.model.specs.Store.{Store, performed, stores, epochs, fenced}
 use Rattle.model.specs.Calls.{checkAnswer, freeCountAnswer, sizeAnswer, readAnswer, readBuffer, Planned, format, performAnswer}
 use Rattle.model.specs.Cut.{Change, fileOf, called, planOf, after, Cut, Names, standing, lastArrived}
 
--- ---- Plans of a write or a length change
+-- ---- Plans
 
--- *none stands first or last*, nor two in a row; *within an epoch no address occurs twice*; every store goes to a block in 1 to B − 2
-pub record Shaped (g : Layout) (b : List ℕ) (ss : List Store) : Type 0 where
+-- *none stands first or last*, nor two in a row; *within an epoch no address occurs twice*
+pub record Shaped (ss : List Store) : Type 0 where
   pub fences : ss ≡ fenced (epochs ss)
   pub full : T (all (λ e. ltb 0 (length e)) (epochs ss))
   pub once : T (all (λ e. distinct (map (λ s. s .at) e)) (epochs ss))
-  pub inside : T (all (λ s. inRange g b (s .at / g .words)) (stores ss))
 
--- every plan of a write or a length change on an accepted board is so
+-- every plan of a write or a length change on an accepted board is so, and stores to blocks 1 to B − 2 only
 abbrev pub PlanRule : Type 0
-PlanRule = (g : Layout) → Fits g → (b : List ℕ) → T (accepted g b) → (c : Change) (slice : List ℕ) → Shaped g b (planOf (called g b c slice))
+PlanRule = (g : Layout) → Fits g → (b : List ℕ) → T (accepted g b) → (c : Change) (slice : List ℕ)
+    → let ss : List Store = planOf (called g b c slice) in
+    Shaped ss × T (all (λ s. inRange g b (s .at / g .words)) (stores ss))
 
--- ---- Block 0: *what it holds decides no answer, and no plan stores to it* (Shaped)
+-- and every plan of format, which stores to the trailer too
+abbrev pub FormatPlanRule : Type 0
+FormatPlanRule = (g : Layout) → Fits g → (b : List ℕ) → T (wordCountSound g b) → (slice : List ℕ)
+    → let ss : List Store = planOf (format g b slice) in
+    Shaped ss × T (all (λ s. leb (g .words) (s .at)) (stores ss))
+
+-- ---- Block 0: *what it holds decides no answer*; that *no plan stores to it* is in the rules above
 
 -- every call answers and leaves the same on b and b′
 pub record SameCalls (g : Layout) (b b′ : List ℕ) : Type 0 where

@@ -58,20 +58,20 @@ takenBy b countsFree = 0
 takenBy b (writes o new) = writePlan house (lowest house b) b 0 o new .taken
 takenBy b (setsLength n) = 0
 
--- the slice lent has words of its own
-unfoldable pub slack : ℕ → List ℕ
-slack room = replicate room 7
+-- a slice to lend, with words of its own
+unfoldable pub lentSlice : ℕ → List ℕ
+lentSlice room = replicate room 7
 
--- the board with a call's whole plan performed
-unfoldable pub ran : List ℕ → Call → ℕ → List ℕ
-ran b c room = let p : Planned = plannedOf b c (slack room) in performBoard house b (p .slice) (counted (p .answer))
+-- the board with the whole plan performed
+unfoldable pub ran : List ℕ → Planned → List ℕ
+ran b p = performBoard house b (p .slice) (counted (p .answer))
 
--- and with several calls performed, one after the other
+-- the board with several calls made and performed, one after the other
 unfoldable pub ranAll : List Call → List ℕ → List ℕ
 ranAll [] b = b
-ranAll (c ∷ cs) b = ranAll cs (ran b c 200)
+ranAll (c ∷ cs) b = ranAll cs (ran b (plannedOf b c (lentSlice 200)))
 
--- a formatted board, words of its own before
+-- the formatted board of a row, every word 7 before, with the row's first calls performed
 unfoldable pub boardOf : Row → List ℕ
 boardOf r = ranAll (formats ∷ r .first) (replicate (8 * r .blocksOf) 7)
 
@@ -100,8 +100,8 @@ saw p b taken lent (reads bytes) = sameList (contents house b 0) bytes
 unfoldable pub holds : Row → Bool
 holds r =
     let b : List ℕ = boardOf r in
-    let p : Planned = plannedOf b (r .call) (slack (r .room)) in
-    all (saw p (performBoard house b (p .slice) (counted (p .answer))) (takenBy b (r .call)) (slack (r .room))) (r .seenThen)
+    let p : Planned = plannedOf b (r .call) (lentSlice (r .room)) in
+    all (saw p (ran b p) (takenBy b (r .call)) (lentSlice (r .room))) (r .seenThen)
 
 -- ---- The table
 
@@ -118,7 +118,7 @@ unfoldable pub filled : ℕ → List ℕ → List ℕ
 filled a [] = []
 filled a (w ∷ ws) = a ∷ w ∷ filled (suc a) ws
 
--- E2 to E8: the calls and plans that more than one line needs
+-- E2's call, and the longer plans
 unfoldable pub E2 : Call
 E2 = writes 0 (65 ∷ 66 ∷ [])
 

@@ -11,9 +11,8 @@ use Rattle.model.specs.Words.{wordsOf}
 use Rattle.model.specs.Layout.{Layout, files}
 use Rattle.model.specs.Tree.{live, span, cell}
 use Rattle.model.specs.Board.{blockCount, rootHeight, rootBlock, size, free}
-use Rattle.model.specs.Answers.{answered, number}
-use Rattle.model.specs.Calls.{boardFaults}
-use Rattle.model.specs.Cabinet.{imageFaults}
+use Rattle.model.specs.Answers.{number}
+use Rattle.model.specs.Cabinet.{imageCheckAnswer}
 
 module _ (W : ℕ) (b : List ℕ) where
   -- the *live data blocks* of the tree (h, k, n), counted
@@ -81,4 +80,4 @@ answerLines g b (Refused f) = line word-refused (number f) []
 
 -- what is printed for an image
 unfoldable pub listing : Layout → List ℕ → List ℕ
-listing g image = answerLines g (wordsOf image) (answered (imageFaults image ++ boardFaults g (wordsOf image)) 0)
+listing g image = answerLines g (wordsOf image) (imageCheckAnswer g image)

@@ -24,7 +24,7 @@ unfoldable pub every : ℕ → (ℕ → Bool) → Bool
 every zero p = true
 every (suc n) p = every n p && p n
 
--- or of one
+-- p holds of some number below n
 unfoldable pub some : ℕ → (ℕ → Bool) → Bool
 some zero p = false
 some (suc n) p = some n p || p n
@@ -54,12 +54,12 @@ unfoldable pub pickFrom : ℕ → ℕ → (ℕ → Bool) → List ℕ
 pickFrom c zero p = []
 pickFrom c (suc n) p = consIf (p c) c (pickFrom (c + 1) n p)
 
--- x is among them
+-- x is in the list
 unfoldable pub member : ℕ → List ℕ → Bool
 member x [] = false
 member x (y ∷ ys) = eqb x y || member x ys
 
--- no number stands there twice
+-- no number is in the list twice
 unfoldable pub distinct : List ℕ → Bool
 distinct [] = true
 distinct (x ∷ xs) = not (member x xs) && distinct xs
