@@ -1,8 +1,9 @@
--- Theorems about the definitions of specs/: loops and counting (Cases, Counting), spans (Spans), stores (Perform), format (Formatted),
+-- Theorems about the definitions of specs/: loops and counting (Cases, Counting), spans (Spans), trees one level at a time (Trees), stores (Perform), format (Formatted),
 -- and the marked examples by computation (Computing, Marked).
 pub mod Cases
 pub mod Counting
 pub mod Spans
+pub mod Trees
 pub mod Perform
 pub mod Formatted
 pub mod Computing

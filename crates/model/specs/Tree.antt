@@ -76,8 +76,9 @@ module _ (W : ℕ) where
 
     -- every live pointer of the tree *has a block* below top, *live ones may be null, and low bits 0*; the low bits of the tree's own are not looked at
     unfoldable pub sound : ℕ → ℕ → ℕ → ℕ → Bool
-    sound top zero k zero = true
-    sound top zero k (suc n) = ltb k top
+    sound top zero zero n = true
+    sound top zero (suc k) zero = true
+    sound top zero (suc k) (suc n) = ltb (suc k) top
     sound top (suc h) zero n = true
     sound top (suc h) (suc k) zero = true
     sound top (suc h) (suc k) (suc n) =

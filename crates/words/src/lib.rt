@@ -1,11 +1,10 @@
 // Words of a board and bytes of a word. Access is total, as the definitions' is: a word off the slice reads 0, a store off it does nothing.
 ghost use mathlib.Core.Path.{_≡_};
-ghost use mathlib.Core.List.{_++_};
 ghost use Prim.Native.Nat.{_≤_, _<_};
-ghost use lib.ListN.{length, getD, set, drop};
-ghost use Rattle.model.specs.Lists.{tabulate};
+ghost use lib.ListN.{length, getD, set};
 ghost use Rattle.model.specs.Words.{byteOf};
 ghost use Rattle.model.specs.Tree.{cell};
+ghost use Rattle.words.specs.Filled.{Filled};
 
 // The word at an index.
 pub fn word(words: &[u64], at: u64) -> u64
@@ -49,14 +48,11 @@ pub fn byte(x: u64, i: u64) -> u8
 // The eight bytes of a word, to the front of a buffer.
 pub fn spread(x: u64, out: &mut [u8])
     requires { ⌜ 8 ≤ length (now out) ⌝ }
-    ensures { λ _. ⌜ now (out .exit) ≡ tabulate 8 (byteOf x) ++ drop 8 (now (out .entry)) ⌝ }
+    ensures { λ _. ⌜ Filled (byteOf x) 8 (now (out .entry)) (now (out .exit)) ⌝ }
 {
-    out[0] = byte(x, 0);
-    out[1] = byte(x, 1);
-    out[2] = byte(x, 2);
-    out[3] = byte(x, 3);
-    out[4] = byte(x, 4);
-    out[5] = byte(x, 5);
-    out[6] = byte(x, 6);
-    out[7] = byte(x, 7);
+    let mut i = 0;
+    while i < 8 {
+        out[i] = byte(x, i as u64);
+        i += 1;
+    }
 }

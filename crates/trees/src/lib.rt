@@ -1,0 +1,132 @@
+// Trees of blocks: the walk to a byte, the crawl that marks live blocks, and the count of data blocks. A tree is (h, k, n), as in the
+// definitions: its height, its block, and how many of its bytes lie below the file's size.
+use model::WalkEnd;
+use words::cell;
+use words::put;
+use words::word;
+ghost use mathlib.Core.Path.{_≡_};
+ghost use mathlib.Core.List.{[], _∷_};
+ghost use Prim.Native.Nat.{_<_};
+ghost use lib.Dec.{ltb};
+ghost use Rattle.model.specs.Tree.{walk};
+ghost use Rattle.model.specs.Board.{rootWalk};
+ghost use Rattle.trees.specs.Trees.{Spanned, Crawled, Counted};
+ghost use Rattle.trees.specs.Marks.{Marked};
+
+// The bytes that a tree of height h spans. A shift, since a walk divides by it. The low bits of any root are below 8.
+pub fn span(h: u64) -> u64
+    requires { ⌜ h < 8 ⌝ }
+    ensures { λ r. ⌜ Spanned h r ⌝ }
+{
+    64 << (3 * h)
+}
+
+// The walk to byte i of a tree.
+pub fn walk(board: &[u64], h: u64, k: u64, n: u64, i: u64) -> WalkEnd
+    requires { ⌜ h < 8 ⌝ }
+    ensures { λ r. ⌜ r ≡ walk 8 (now (board .entry)) h k n i ⌝ }
+{
+    if n == 0 {
+        return WalkEnd::Hole;
+    }
+    if k == 0 {
+        return WalkEnd::Hole;
+    }
+    if h == 0 {
+        return WalkEnd::Block(k);
+    }
+    let s = span(h - 1);
+    let j = i / s;
+    let first = j * s;
+    if n <= first {
+        return WalkEnd::Hole;
+    }
+    walk(board, h - 1, cell(board, k, j) / 8, n - first, i % s)
+}
+
+// The walk from a root word to byte i of a file of n bytes.
+pub fn root_walk(board: &[u64], root: u64, n: u64, i: u64) -> WalkEnd
+    ensures { λ r. ⌜ r ≡ rootWalk 8 (now (board .entry)) root n i ⌝ }
+{
+    let h = root % 8;
+    if span(h) <= i {
+        return WalkEnd::Hole;
+    }
+    walk(board, h, root / 8, n, i)
+}
+
+// Marks block k; whether it lies below top and was not marked before.
+pub fn claim(marks: &mut [u64], top: u64, k: u64) -> bool
+    ensures { λ r. ⌜ Marked (ltb k top) (k ∷ []) (now (marks .entry)) r (now (marks .exit)) ⌝ }
+{
+    if top <= k {
+        return false;
+    }
+    if word(marks, k) != 0 {
+        return false;
+    }
+    put(marks, k, 1);
+    true
+}
+
+// Marks the live blocks of a tree; whether its live pointers are as they must be and none of its blocks was marked before.
+pub fn crawl(board: &[u64], marks: &mut [u64], top: u64, h: u64, k: u64, n: u64) -> bool
+    requires { ⌜ h < 8 ⌝ }
+    ensures { λ r. ⌜ Crawled top (now (board .entry)) h k n (now (marks .entry)) r (now (marks .exit)) ⌝ }
+{
+    if n == 0 {
+        return true;
+    }
+    if k == 0 {
+        return true;
+    }
+    if !claim(marks, top, k) {
+        return false;
+    }
+    if h == 0 {
+        return true;
+    }
+    let s = span(h - 1);
+    let mut j = 0;
+    while j < 8 {
+        let first = j * s;
+        if first < n {
+            let p = cell(board, k, j);
+            if p % 8 != 0 {
+                return false;
+            }
+            if !crawl(board, marks, top, h - 1, p / 8, n - first) {
+                return false;
+            }
+        }
+        j += 1;
+    }
+    true
+}
+
+// How many live data blocks a tree has.
+pub fn data_blocks(board: &[u64], h: u64, k: u64, n: u64) -> u64
+    requires { ⌜ h < 8 ⌝ }
+    ensures { λ r. ⌜ Counted (now (board .entry)) h k n r ⌝ }
+{
+    if n == 0 {
+        return 0;
+    }
+    if k == 0 {
+        return 0;
+    }
+    if h == 0 {
+        return 1;
+    }
+    let s = span(h - 1);
+    let mut count = 0;
+    let mut j = 0;
+    while j < 8 {
+        let first = j * s;
+        if first < n {
+            count += data_blocks(board, h - 1, cell(board, k, j) / 8, n - first);
+        }
+        j += 1;
+    }
+    count
+}
