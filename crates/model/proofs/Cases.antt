@@ -1,9 +1,10 @@
 -- Cases on numbers and tests, and laws of the loops of specs/Lists.antt.
 use mathlib.Core.Path.{_≡_, refl, ap, ap₂}
 use mathlib.Core.Logic.{_≢_, _⊎_, inl, inr}
-use mathlib.Core.Bool.{Bool, true, false, _&&_}
+use mathlib.Core.Bool.{Bool, true, false, _&&_, and-false, false≢true}
 use mathlib.Core.List.{List, [], _∷_, _++_}
-use Prim.Native.Nat.{ℕ, zero, suc, _≤_, _<_}
+use Prim.Native.Nat.{ℕ, zero, suc, _+_, _≤_, _<_}
+use native.Mathlib.Numerals.{add-one}
 use native.Mathlib.Omega.{arith}
 use lib.Dec.{T, leb, eqb}
 use borrow.Author.Tests.{leb-true, leb-false, eqb-true, eqb-false}
@@ -35,10 +36,32 @@ pub and-both : (s t : Bool) → T s → T t → T (s && t)
 and-both true t h g = g
 and-both false t h g = h
 
+-- the same of a test's value
+pub true-left : (s t : Bool) → (s && t) ≡ true → s ≡ true
+true-left true t e = refl
+true-left false t e = e
+
+pub true-right : (s t : Bool) → (s && t) ≡ true → t ≡ true
+true-right true t e = e
+true-right false t e = absurd (false≢true e)
+
 pub every-all : (m : ℕ) (p : ℕ → Bool) → ((j : ℕ) → j < m → T (p j)) → T (every m p)
 unfolding every
 every-all zero p f = tt
 every-all (suc m) p f = and-both (every m p) (p m) (every-all m p (λ j h. f j (omega arith))) (f m (omega arith))
+
+-- what a loop over the numbers below n finds
+pub every-more : (j : ℕ) (p : ℕ → Bool) → every j p ≡ true → p j ≡ true → every (j + 1) p ≡ true
+unfolding every
+every-more j p e h = rw (add-one j, e, h)
+
+pub every-fails : (n j : ℕ) (p : ℕ → Bool) → j < n → p j ≡ false → every n p ≡ false
+unfolding every
+every-fails zero j p l e = absurd (omega arith)
+every-fails (suc n) j p l e = elim (decide j n) [
+  | inl z ↦ rw (← z, e, and-false)
+  | inr z ↦ rw (every-fails n j p (omega arith) e)
+]
 
 module _ {A : Type 0} where
   pub tabulate-cong : (m : ℕ) (f g : ℕ → A) → ((j : ℕ) → j < m → f j ≡ g j) → tabulate m f ≡ tabulate m g

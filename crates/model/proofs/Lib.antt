@@ -1,9 +1,10 @@
--- Theorems about the definitions of specs/: loops and counting (Cases, Counting), spans (Spans), trees one level at a time (Trees), stores (Perform), format (Formatted),
+-- Theorems about the definitions of specs/: loops and counting (Cases, Counting), spans (Spans), trees one level at a time (Trees), where live blocks lie (Live), stores (Perform), format (Formatted),
 -- and the marked examples by computation (Computing, Marked).
 pub mod Cases
 pub mod Counting
 pub mod Spans
 pub mod Trees
+pub mod Live
 pub mod Perform
 pub mod Formatted
 pub mod Computing

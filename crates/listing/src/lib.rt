@@ -1,0 +1,2 @@
+// What the lister program prints.
+pub mod text;

@@ -1,0 +1,82 @@
+// The bytes of a file, block by block.
+use model::WalkEnd;
+use trees::root_walk;
+use words::byte;
+use words::cell;
+use words::spread;
+ghost use mathlib.Core.Path.{_≡_};
+ghost use Prim.Native.Nat.{_+_, _≤_, min};
+ghost use lib.ListN.{length};
+ghost use Rattle.model.specs.Tree.{shown};
+ghost use Rattle.model.specs.declared.WalkEnd.the-variants.{Block};
+ghost use Rattle.words.specs.Filled.{Filled};
+ghost use Rattle.reading.specs.Results.{FillResult};
+
+// n zeros, to the front of a buffer.
+pub fn clear(n: usize, out: &mut [u8])
+    requires { ⌜ n ≤ length (now out) ⌝ }
+    ensures { λ _. ⌜ Filled (λ j. 0) n (now (out .entry)) (now (out .exit)) ⌝ }
+{
+    let mut j = 0;
+    while j < n {
+        out[j] = 0;
+        j += 1;
+    }
+}
+
+// n bytes of block k, from byte `from` of it on, to the front of a buffer: whole words where they can.
+pub fn copy_block(board: &[u64], k: u64, from: u64, n: usize, out: &mut [u8])
+    requires { ⌜ (n ≤ length (now out)) × (from ≤ 64) ⌝ }
+    ensures { λ _. ⌜ Filled (λ j. shown 8 (now (board .entry)) (Block k) (from + j)) n (now (out .entry)) (now (out .exit)) ⌝ }
+{
+    let mut j = 0;
+    while j < n {
+        let at = from + j as u64;
+        let x = cell(board, k, at / 8);
+        if at % 8 == 0 && 8 <= n - j {
+            spread(x, &mut out[j..]);
+            j += 8;
+        } else {
+            out[j] = byte(x, at % 8);
+            j += 1;
+        }
+    }
+}
+
+// The same where a walk ended.
+pub fn copy(board: &[u64], end: WalkEnd, from: u64, n: usize, out: &mut [u8])
+    requires { ⌜ (n ≤ length (now out)) × (from ≤ 64) ⌝ }
+    ensures { λ _. ⌜ Filled (λ j. shown 8 (now (board .entry)) end (from + j)) n (now (out .entry)) (now (out .exit)) ⌝ }
+{
+    let WalkEnd::Block(k) = end else {
+        clear(n, out);
+        return;
+    };
+    copy_block(board, k, from, n, out);
+}
+
+fn least(a: usize, b: usize) -> usize
+    ensures { λ r. ⌜ r ≡ min a b ⌝ }
+{
+    if a < b { a } else { b }
+}
+
+// Fills a buffer with the bytes of a file of n bytes, from byte o on, each piece placed after the last, and answers how many there are.
+pub fn fill(board: &[u64], root: u64, n: u64, o: u64, out: &mut [u8]) -> usize
+    ensures { λ r. ⌜ FillResult (now (board .entry)) root n o (now (out .entry)) r (now (out .exit)) ⌝ }
+{
+    if n <= o {
+        return 0;
+    }
+    let count = least(out.len(), (n - o) as usize);
+    let mut done = 0;
+    while done < count {
+        let at = o + done as u64;
+        let from = at % 64;
+        let len = least((64 - from) as usize, count - done);
+        let end = root_walk(board, root, n, at);
+        copy(board, end, from, len, &mut out[done..]);
+        done += len;
+    }
+    count
+}
