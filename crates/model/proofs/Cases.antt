@@ -1,9 +1,10 @@
 -- Cases on numbers and tests, and laws of the loops of specs/Lists.antt.
-use mathlib.Core.Path.{_≡_, refl, ap, ap₂}
+use mathlib.Core.Path.{_≡_, refl, sym, ap, ap₂}
 use mathlib.Core.Logic.{_≢_, _⊎_, inl, inr}
 use mathlib.Core.Bool.{Bool, true, false, _&&_, and-false, false≢true}
-use mathlib.Core.List.{List, [], _∷_, _++_}
+use mathlib.Core.List.{List, [], _∷_, _++_, append-assoc, append-nil}
 use Prim.Native.Nat.{ℕ, zero, suc, _+_, _≤_, _<_}
+use native.Mathlib.Nat.{add-zero, add-suc}
 use native.Mathlib.Numerals.{add-one}
 use native.Mathlib.Omega.{arith}
 use lib.Dec.{T, leb, eqb}
@@ -68,6 +69,11 @@ module _ {A : Type 0} where
   unfolding tabulate
   tabulate-cong zero f g e = refl
   tabulate-cong (suc m) f g e = ap₂ _++_ (tabulate-cong m f g (λ j h. e j (omega arith))) (ap (λ (x : A). x ∷ []) (e m (omega arith)))
+
+  pub tabulate-add : (m n : ℕ) (f : ℕ → A) → tabulate (m + n) f ≡ tabulate m f ++ tabulate n (λ j. f (m + j))
+  unfolding tabulate
+  tabulate-add m zero f = rw add-zero (sym (append-nil (tabulate m f)))
+  tabulate-add m (suc n) f = rw (add-suc m n, tabulate-add m n f) (append-assoc (tabulate m f) (tabulate n (λ j. f (m + j))) (f (m + n) ∷ []))
 
   pub joined-none : (m : ℕ) (f : ℕ → List A) → ((j : ℕ) → j < m → f j ≡ []) → joined m f ≡ []
   unfolding joined

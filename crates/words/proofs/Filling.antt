@@ -2,7 +2,6 @@
 use mathlib.Core.Path.{_≡_, refl, sym, ap, _∙_}
 use mathlib.Core.List.{List, [], _∷_, _++_, append-assoc, append-nil}
 use Prim.Native.Nat.{ℕ, zero, suc, _+_, _-_, _≤_, _<_}
-use native.Mathlib.Nat.{add-zero, add-suc}
 use native.Mathlib.Numerals.{add-one}
 use native.Mathlib.Omega.{arith}
 use lib.ListN.{length, getD, set, take, drop, length-append, length-drop, drop-of-length-le}
@@ -10,14 +9,9 @@ use lib.Seq.{drop-cons, append-snoc, set-at, take-at, drop-at, drop-drop}
 use borrow.Rule.Slice.PartAt.{part-to-end}
 use borrow.Rule.Slice.PartMut.{putMid}
 use Rattle.model.specs.Lists.{tabulate}
-use Rattle.model.proofs.Cases.{tabulate-cong}
+use Rattle.model.proofs.Cases.{tabulate-cong, tabulate-add}
 use Rattle.model.proofs.Perform.{length-tabulate}
 use Rattle.words.specs.Filled.{Filled}
-
-tabulate-add : (m n : ℕ) (f : ℕ → ℕ) → tabulate (m + n) f ≡ tabulate m f ++ tabulate n (λ j. f (m + j))
-unfolding tabulate
-tabulate-add m zero f = rw add-zero (sym (append-nil (tabulate m f)))
-tabulate-add m (suc n) f = rw (add-suc m n, tabulate-add m n f) (append-assoc (tabulate m f) (tabulate n (λ j. f (m + j))) (f (m + n) ∷ []))
 
 module _ {f : ℕ → ℕ} {out : List ℕ} where
   pub none : Filled f 0 out out

@@ -1,0 +1,39 @@
+-- What a call answers whose list of faults begins with another's: the other's answer where that is a refusal, else that of the rest. So a call may
+-- ask the other first.
+use mathlib.Core.Path.{_≡_, refl, sym, _∙_}
+use mathlib.Core.Bool.{Bool, true, false, cond}
+use mathlib.Core.List.{[], _∷_, _++_, append-nil}
+use Prim.Native.Nat.{ℕ}
+use Rattle.model.specs.declared.Fault.{Fault}
+use Rattle.model.specs.declared.Answer.{Answer}
+use Rattle.model.specs.declared.Answer.the-variants.{Done, Refused}
+use Rattle.model.specs.Answers.{Faults, answered, unlessRefused}
+
+asked-first : (fs more : Faults) (v n : ℕ) → answered (fs ++ more) n ≡ unlessRefused (answered fs v) (answered more n) (answered fs v)
+unfolding answered unlessRefused
+asked-first [] more v n = refl
+asked-first (t ∷ ts) more v n = by (t .1) (asked-first ts more v n)
+  where
+    by : (s : Bool) → answered (ts ++ more) n ≡ unlessRefused (answered ts v) (answered more n) (answered ts v) →
+        cond s (Refused (t .0)) (answered (ts ++ more) n)
+        ≡ unlessRefused (cond s (Refused (t .0)) (answered ts v)) (answered more n) (cond s (Refused (t .0)) (answered ts v))
+    by true ih = refl
+    by false ih = ih
+
+module _ (fs more : Faults) (v n : ℕ) {r : Answer} (e : r ≡ answered fs v) where
+  pub first-refused : {f : Fault} → r ≡ Refused f → answered (fs ++ more) n ≡ r
+  unfolding unlessRefused
+  first-refused z = asked-first fs more v n ∙ rw (← e, z)
+
+  pub first-done : {w : ℕ} → r ≡ Done w → answered (fs ++ more) n ≡ answered more n
+  unfolding unlessRefused
+  first-done z = asked-first fs more v n ∙ rw (← e, z)
+
+-- the same faults with another number to answer
+module _ (fs : Faults) (v n : ℕ) {r : Answer} (e : r ≡ answered fs v) where
+  pub same-refused : {f : Fault} → r ≡ Refused f → answered fs n ≡ r
+  same-refused z = rw append-nil at (first-refused fs [] v n e z)
+
+  pub same-done : {w : ℕ} → r ≡ Done w → answered fs n ≡ Done n
+  unfolding answered
+  same-done z = rw append-nil at (first-done fs [] v n e z)

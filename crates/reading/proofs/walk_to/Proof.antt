@@ -1,0 +1,12 @@
+use borrow.Author.Needs.{needs}
+use mathlib.Core.Path.{_∙_}
+use Rattle.model.specs.Board.{walkTo}
+use Rattle.reading.proofs.walk_to.Statement.{statement}
+use Rattle.reading.proofs.walk_to.Tie as tie
+
+returns : tie.Need-returns
+unfolding walkTo
+returns c = c .root-walk .ensures ∙ rw (c .before .before .root .ensures, c .before .size .ensures)
+
+pub walk-to-spec : {M : Type 1} → statement M
+walk-to-spec = tie.close (tie.spec (λ c κs. search needs) (λ c κs. search needs) (λ c κs. search needs) returns)

@@ -1,0 +1,186 @@
+#!/usr/bin/env python3
+"""Runs target/bin/lister on images, and holds what it prints against board.py, the reference model, and E13 against the document.
+
+Boards are made by the model's own calls: format, writes and length changes, planned and performed, on memory that held rubbish.
+
+    run.py [SEED [COUNT]]    COUNT random boards, each also damaged (default: seed 1, 200 boards)
+"""
+import os
+import random
+import struct
+import subprocess
+import sys
+import time
+
+ROOT = os.path.dirname(os.path.dirname(os.path.dirname(os.path.abspath(__file__))))
+sys.path.insert(0, os.path.join(ROOT, 'tests', 'reference'))
+import board as B
+
+LISTER = os.path.join(ROOT, 'target', 'bin', 'lister')
+E13 = 'blocks 16 free 4\nfile 0 size 2 height 0 data 1\n'
+PLAN = [0] * 12000
+
+
+# ---- Boards
+
+
+def image_of(words):
+    return struct.pack('<%dQ' % len(words), *words)
+
+
+def performed(words, planned, pairs=None):
+    """The board after the plan, or after its first pairs; the same board where the call was refused."""
+    count, plan = planned
+    return B.perform(words, plan, count if pairs is None else pairs)[1] if count > 0 else words
+
+
+def formatted(rnd, count):
+    words = [rnd.getrandbits(64) for _ in range(8 * count)]
+    return performed(words, B.format_board(words, PLAN))
+
+
+def write(words, file, offset, new):
+    return performed(words, B.write(words, file, offset, new, PLAN))
+
+
+def set_length(words, file, length):
+    return performed(words, B.set_length(words, file, length, PLAN))
+
+
+def e13_board(rnd):
+    return write(formatted(rnd, 16), 0, 0, [65, 66])
+
+
+def many_shapes(rnd):
+    """Every height, null roots of height 0 and 3, holes on each level, sizes above the span, a file shortened to nothing."""
+    words = formatted(rnd, 1024)
+    for file, length in [(0, 1), (1, 64), (2, 65), (3, 512), (4, 513), (5, 4096), (6, 4097), (7, 20000), (30, 700), (31, 3)]:
+        words = write(words, file, 0, [rnd.randrange(256) for _ in range(length)])
+    for file, length in [(1, 32768), (3, 513), (4, 66), (5, 30000), (8, 1), (9, 32768), (30, 0)]:
+        words = set_length(words, file, length)
+    for file, length, offset in [(10, 32768, 20000), (11, 500, 450), (12, 4000, 700), (13, 32768, 32767)]:
+        words = write(set_length(words, file, length), file, offset, [7])
+    words = set_length(words, 14, 9000)
+    words = performed(words, B.write(words, 14, 8999, [7], PLAN), pairs=1)  # growth of a null root, the power cut after it
+    lines = B.listing(image_of(words))
+    for want in ['height 0 data 1', 'height 1 data', 'height 2 data', 'height 3 data', 'size 32768 height 0 data 1', 'size 32768 height 0 data 0',
+                 'size 9000 height 3 data 0', 'file 31']:
+        assert want in lines, want
+    assert 'file 30' not in lines
+    return words
+
+
+def some_board(rnd):
+    words = formatted(rnd, rnd.choice([16, 16, 17, 20, 40, 100, 1024]))
+    for _ in range(rnd.randrange(14)):
+        file = rnd.choice([0, 0, 3, 4, 17, 30, 31])
+        size = B.size(words, file)
+        if rnd.random() < 0.6:
+            offset = rnd.choice([0, size, rnd.randrange(size + 1)])
+            words = write(words, file, offset, [rnd.randrange(256) for _ in range(rnd.choice([1, 2, 9, 64, 70, 300, 600, 2000]))])
+        else:
+            words = set_length(words, file, rnd.choice([0, 1, size // 2, size + 1, size + 100, 600, 5000, 32768]))
+    return words
+
+
+def with_word(words, at, value):
+    return words[:at] + [value] + words[at + 1:]
+
+
+def damaged(rnd, words):
+    """The board with one word made another, most often a word that decides something."""
+    survey = B.Survey(words)
+    places = [range(len(words) - 8, len(words)), range(8 * survey.pointer_block, 8 * survey.pointer_block + 8), list(survey.cells),
+              [survey.inode(file) + 1 for file in range(32)], range(len(words))]
+    at = rnd.choice(rnd.choice(places))
+    return with_word(words, at, rnd.choice([words[at] ^ 1 << rnd.randrange(64), words[at] ^ 1 << rnd.randrange(14), 8 * rnd.choice(list(survey.blocks)),
+                                            8 * rnd.randrange(survey.count + 2), 32768 + rnd.randrange(2), rnd.randrange(8), rnd.getrandbits(64)]))
+
+
+# ---- Inputs
+
+
+def inputs(rnd, count):
+    """Each image with its name."""
+    e13, greatest = e13_board(rnd), image_of(formatted(rnd, 1024))
+    image = image_of(e13)
+    yield 'formatted, 16 blocks', image_of(formatted(rnd, 16))
+    yield 'formatted, 1,024 blocks', greatest
+    yield 'many shapes', image_of(many_shapes(rnd))
+    yield 'no bytes', b''
+    for length in (1, 7, 8, 64, 960, 1016, 1023):
+        yield '%d bytes' % length, image[:length]
+    for more in (1, 7, 8, 56, 64):
+        yield '%d bytes more than a board' % more, image + bytes(more)
+    for length in (65528, 65535, 65537, 65544, 65600, 131072, 200000):
+        yield '%d bytes' % length, (greatest * 4)[:length]
+    for at in range(120, 128):
+        for value in (0, 2**64 - 1, e13[at] + 1):
+            yield 'trailer, word %d = %d' % (at, value), image_of(with_word(e13, at, value))
+    # an inode pointer, the file's root, its size, the root and size of an empty file, block 0
+    for at, values in [(8, [0, 17, 24, 120, 2**63 + 16]), (16, [84, 8, 16, 81, 120, 128]), (17, [0, 32768, 32769, 2**64 - 1]), (22, [2**64 - 1]),
+                       (23, [1, 32769]), (0, [5])]:
+        for value in values:
+            yield 'word %d = %d' % (at, value), image_of(with_word(e13, at, value))
+    for number in range(count):
+        words = some_board(rnd)
+        yield 'random board %d' % number, image_of(words)
+        yield 'random board %d, damaged' % number, image_of(damaged(rnd, words))
+
+
+# ---- The program
+
+
+def compare(name, wanted, status, found):
+    found = found.decode('latin-1')
+    if status == 0 and found == wanted:
+        return
+    print('lister: %s: not as expected, exit status %d' % (name, status))
+    wanted, found = wanted.splitlines(True), found.splitlines(True)
+    for i in range(max(len(wanted), len(found))):
+        pair = [repr(lines[i]) if i < len(lines) else 'no line' for lines in (wanted, found)]
+        if pair[0] != pair[1]:
+            print('line %d: expected %s, found %s' % (i + 1, pair[0], pair[1]))
+            break
+    sys.exit(1)
+
+
+def listed(name, image, wanted):
+    done = subprocess.run([LISTER], input=image, stdout=subprocess.PIPE, timeout=20)
+    compare(name, wanted, done.returncode, done.stdout)
+
+
+def listed_in_pieces(name, image, wanted, ends):
+    """The same with pauses, so that the program gets less than it asks for."""
+    with subprocess.Popen([LISTER], stdin=subprocess.PIPE, stdout=subprocess.PIPE) as run:
+        start = 0
+        for end in ends + [len(image)]:
+            run.stdin.write(image[start:end])
+            run.stdin.flush()
+            time.sleep(0.02)
+            start = end
+        found = run.communicate(timeout=20)[0]
+    compare(name, wanted, run.returncode, found)
+
+
+def main():
+    seed, count = (list(map(int, sys.argv[1:])) + [1, 200][len(sys.argv) - 1:])[:2]
+    rnd = random.Random(seed)
+    if not os.path.exists(LISTER):
+        sys.exit('lister: target/bin/lister is not built (rt check lister)')
+    image, greatest = image_of(e13_board(rnd)), image_of(many_shapes(rnd))
+    listed("E13's board", image, E13)
+    listed_in_pieces("E13's board in pieces", image, E13, [1, 8, 13, 700, 1023])
+    listed_in_pieces('a board of 1,024 blocks in pieces', greatest, B.listing(greatest), [1, 4096, 65535])
+    number, refusals = 3, {}
+    for name, image in inputs(rnd, count):
+        wanted = B.listing(image)
+        listed(name, image, wanted)
+        number += 1
+        if wanted.startswith('refused'):
+            refusals[wanted.strip()] = refusals.get(wanted.strip(), 0) + 1
+    print('lister: ' + ', '.join('%s %d times' % refusal for refusal in sorted(refusals.items())))
+    print('lister: %d inputs, all as the reference model has them' % number)
+
+
+main()
