@@ -37,20 +37,20 @@ module _ {b m : List ℕ} {r : Answer} (s : Surveyed b r m) where
       let e : top - 1 ≡ blockCount house b - 2 = omega arith in
       ap Done (eu ∙ rw e (ap length (free-spare v s z))) ∙ sym (same-done (boardFaults house b) 0 (length (free house b)) (s .answer) z)
 
--- a call on file f that answers n
-module _ (b : List ℕ) (f n : ℕ) {r : Answer} (e : r ≡ checkAnswer house b) where
-  pub file-refused : {x : Fault} → r ≡ Refused x → answered (fileFaults house b f) n ≡ r
+-- the check of a board and a file number
+module _ (b : List ℕ) (f : ℕ) {r : Answer} (e : r ≡ checkAnswer house b) where
+  pub file-refused : {x : Fault} → r ≡ Refused x → r ≡ answered (fileFaults house b f) 0
   unfolding fileFaults checkAnswer files
-  file-refused z = first-refused (boardFaults house b) ((FileNumber, leb 32 f) ∷ []) 0 n e z
+  file-refused z = sym (first-refused (boardFaults house b) ((FileNumber, leb 32 f) ∷ []) 0 0 e z)
 
   module _ {v : ℕ} (z : r ≡ Done v) where
-    pub file-none : 31 < f → answered (fileFaults house b f) n ≡ Refused FileNumber
+    pub file-none : 31 < f → Refused FileNumber ≡ answered (fileFaults house b f) 0
     unfolding fileFaults checkAnswer answered files
-    file-none l = first-done (boardFaults house b) ((FileNumber, leb 32 f) ∷ []) 0 n e z ∙ rw (le-leb 32 f l)
+    file-none l = sym (first-done (boardFaults house b) ((FileNumber, leb 32 f) ∷ []) 0 0 e z ∙ rw (le-leb 32 f l))
 
-    pub file-there : f ≤ 31 → answered (fileFaults house b f) n ≡ Done n
+    pub file-there : f ≤ 31 → Done 0 ≡ answered (fileFaults house b f) 0
     unfolding fileFaults checkAnswer answered files
-    file-there l = first-done (boardFaults house b) ((FileNumber, leb 32 f) ∷ []) 0 n e z ∙ rw (lt-leb 32 f (omega arith))
+    file-there l = sym (first-done (boardFaults house b) ((FileNumber, leb 32 f) ∷ []) 0 0 e z ∙ rw (lt-leb 32 f (omega arith)))
 
 -- the bytes of a read are a part of the contents
 contents-part : (b : List ℕ) (f o c : ℕ) → c ≤ size house b f - o → take c (drop o (contents house b f)) ≡ tabulate c (λ d. fileByte b (root house b f) (size house b f) (o + d))
@@ -66,23 +66,15 @@ module _ {b : List ℕ} {f o : ℕ} {out : List ℕ} where
   unfolding readBuffer unlessRefused
   turned e = record { answer = e; buffer = rw (← e) }
 
-  module _ {r : Answer} (e : r ≡ checkAnswer house b) where
+  module _ {r : Answer} (e : r ≡ answered (fileFaults house b f) 0) where
     pub read-refused : {x : Fault} → r ≡ Refused x → ReadResult b f o out r out
     unfolding readAnswer
-    read-refused {x} z = rw z (turned (sym (file-refused b f (readCount house b f o out) e z ∙ z)))
+    read-refused {x} z = rw z (turned (sym (same-refused (fileFaults house b f) 0 (readCount house b f o out) e z ∙ z)))
 
-    module _ {v : ℕ} (z : r ≡ Done v) where
-      pub read-none : 31 < f → ReadResult b f o out (Refused FileNumber) out
-      unfolding readAnswer
-      read-none l = turned (sym (file-none b f (readCount house b f o out) e z l))
-
-      pub read-bytes : {p n c : ℕ} {out′ : List ℕ} → f ≤ 31 → p ≡ root house b f → n ≡ size house b f → FillResult b p n o out c out′ → ReadResult b f o out (Done c) out′
-      unfolding readAnswer readBuffer readCount unlessRefused
-      read-bytes {p} {n} {c} {out′} l ep en q =
-          let k : ℕ = min (length out) (size house b f - o) in
-          let ec : c ≡ k = q .count ∙ rw en in
-          let done = file-there b f k e z l in
-          record {
-            answer = rw ec (sym done);
-            buffer = q .bytes .is ∙ rw (done, ep, en, ec, contents-part b f o k (omega arith));
-          }
+    pub read-bytes : {v p n c : ℕ} {out′ : List ℕ} → r ≡ Done v → p ≡ root house b f → n ≡ size house b f → FillResult b p n o out c out′ → ReadResult b f o out (Done c) out′
+    unfolding readAnswer readBuffer readCount unlessRefused
+    read-bytes {v} {p} {n} {c} {out′} z ep en q =
+        let k : ℕ = min (length out) (size house b f - o) in
+        let ec : c ≡ k = q .count ∙ rw en in
+        let done = same-done (fileFaults house b f) 0 k e z in
+        record { answer = rw ec (sym done); buffer = q .bytes .is ∙ rw (done, ep, en, ec, contents-part b f o k (omega arith)) }

@@ -17,10 +17,10 @@ pub fn clear(n: usize, out: &mut [u8])
     requires { ⌜ n ≤ length (now out) ⌝ }
     ensures { λ _. ⌜ Filled (λ j. 0) n (now (out .entry)) (now (out .exit)) ⌝ }
 {
-    let mut j = 0;
-    while j < n {
-        out[j] = 0;
-        j += 1;
+    let mut i = 0;
+    while i < n {
+        out[i] = 0;
+        i += 1;
     }
 }
 

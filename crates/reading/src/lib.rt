@@ -11,7 +11,8 @@ use trees::root_walk;
 ghost use mathlib.Core.Path.{_≡_};
 ghost use Rattle.model.specs.Layout.{house};
 ghost use Rattle.model.specs.Board.{walkTo};
-ghost use Rattle.model.specs.Calls.{checkAnswer, freeCountAnswer, sizeAnswer};
+ghost use Rattle.model.specs.Answers.{answered};
+ghost use Rattle.model.specs.Calls.{fileFaults, checkAnswer, freeCountAnswer, sizeAnswer};
 ghost use Rattle.reading.specs.Results.{ReadResult};
 
 // Check: 0, or refused 1, 2, 3.
@@ -35,9 +36,9 @@ pub fn free_count(board: &[u64]) -> Answer
     Answer::Done(unmarked(&marks, top))
 }
 
-// Size: a file's size, or refused 1, 2, 3, 4.
-pub fn size(board: &[u64], file: u64) -> Answer
-    ensures { λ r. ⌜ r ≡ sizeAnswer house (now (board .entry)) file ⌝ }
+// Whether the board is accepted and has such a file: 0, or refused 1, 2, 3, 4.
+pub fn check_file(board: &[u64], file: u64) -> Answer
+    ensures { λ r. ⌜ r ≡ answered (fileFaults house (now (board .entry)) file) 0 ⌝ }
 {
     let found = check(board);
     let Answer::Done(_) = found else {
@@ -46,6 +47,17 @@ pub fn size(board: &[u64], file: u64) -> Answer
     if 31 < file {
         return Answer::Refused(Fault::FileNumber);
     }
+    Answer::Done(0)
+}
+
+// Size: a file's size, or refused 1, 2, 3, 4.
+pub fn size(board: &[u64], file: u64) -> Answer
+    ensures { λ r. ⌜ r ≡ sizeAnswer house (now (board .entry)) file ⌝ }
+{
+    let found = check_file(board, file);
+    let Answer::Done(_) = found else {
+        return found;
+    };
     Answer::Done(boards::size(board, file))
 }
 
@@ -53,13 +65,10 @@ pub fn size(board: &[u64], file: u64) -> Answer
 pub fn read(board: &[u64], file: u64, offset: u64, out: &mut [u8]) -> Answer
     ensures { λ r. ⌜ ReadResult (now (board .entry)) file offset (now (out .entry)) r (now (out .exit)) ⌝ }
 {
-    let found = check(board);
+    let found = check_file(board, file);
     let Answer::Done(_) = found else {
         return found;
     };
-    if 31 < file {
-        return Answer::Refused(Fault::FileNumber);
-    }
     let root = boards::root(board, file);
     let n = boards::size(board, file);
     let count = files::fill(board, root, n, offset, out);

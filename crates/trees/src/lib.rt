@@ -122,9 +122,9 @@ pub fn data_blocks(board: &[u64], h: u64, k: u64, n: u64) -> u64
     let mut count = 0;
     let mut j = 0;
     while j < 8 {
-        let first = j * s;
-        if first < n {
-            count += data_blocks(board, h - 1, cell(board, k, j) / 8, n - first);
+        let start = j * s;
+        if start < n {
+            count += data_blocks(board, h - 1, cell(board, k, j) / 8, n - start);
         }
         j += 1;
     }

@@ -1,17 +1,14 @@
 use borrow.Author.Needs.{needs}
-use Rattle.reading.proofs.Answering.{read-refused, read-none, read-bytes}
+use Rattle.reading.proofs.Answering.{read-refused, read-bytes}
 use Rattle.reading.proofs.read.Statement.{statement}
 use Rattle.reading.proofs.read.Tie as tie
 
 returns : tie.Need-returns
-returns c = read-refused (c .before .before .check .ensures) (c .enum-told2 .given .1)
+returns c = read-refused (c .before .before .check-file .ensures) (c .enum-told2 .given .1)
 
 returns-2 : tie.Need-returns-2
-returns-2 c = read-none (c .before .before .before .check .ensures) (c .before .enum-told .given .1) (c .if1 .taken)
-
-returns-3 : tie.Need-returns-3
-returns-3 c = let f = c .before .before in let t = f .before .before .before .before .before in
-    read-bytes (t .before .before .check .ensures) (t .enum-told .given .1) (f .before .before .before .before .if1 .left) (f .before .before .before .root .ensures) (f .before .before .size .ensures) (f .fill .ensures)
+returns-2 c = let f = c .before .before in let t = f .before .before .before .before in
+    read-bytes (t .before .before .check-file .ensures) (t .enum-told .given .1) (f .before .before .before .root .ensures) (f .before .before .size .ensures) (f .fill .ensures)
 
 pub read-spec : {M : Type 1} → statement M
-read-spec = tie.close (tie.spec (λ c κs. search needs) (λ c. search needs) (λ c. search needs) returns returns-2 (λ c κs. search needs) (λ c κs. search needs) (λ c κs. search needs) (λ c. search needs) returns-3)
+read-spec = tie.close (tie.spec (λ c κs. search needs) (λ c. search needs) (λ c. search needs) returns (λ c κs. search needs) (λ c κs. search needs) (λ c κs. search needs) (λ c. search needs) returns-2)

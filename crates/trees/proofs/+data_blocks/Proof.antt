@@ -59,8 +59,8 @@ module _ (t : ℕ) where
   unfolding sum
   loop-holds c = (omega arith, refl, omega arith)
 
-  mul-first : N lts.Need-mul-first
-  mul-first c = omega (arith, mul-le-mul (c .loop-test .taken) (c .before .before .span .ensures .high))
+  mul-start : N lts.Need-mul-start
+  mul-start c = omega (arith, mul-le-mul (c .loop-test .taken) (c .before .before .span .ensures .high))
 
   sub-data-blocks : N lts.Need-sub-data-blocks
   sub-data-blocks c = omega arith
@@ -103,7 +103,7 @@ pub +data-blocks-spec : {M : Type 1} → statement M
     (sub-span t)
     (span-requires t)
     (loop-holds t)
-    (mul-first t)
+    (mul-start t)
     (sub-data-blocks t)
     (cell-requires t)
     (sub-data-blocks-2 t)
