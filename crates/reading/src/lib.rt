@@ -27,13 +27,13 @@ pub fn check(board: &[u64]) -> Answer
 pub fn free_count(board: &[u64]) -> Answer
     ensures { λ r. ⌜ r ≡ freeCountAnswer house (now (board .entry)) ⌝ }
 {
-    let mut marks = [0u64; 1024];
-    let found = survey(board, &mut marks);
+    let mut live = [0u64; 1024];
+    let found = survey(board, &mut live);
     let Answer::Done(_) = found else {
         return found;
     };
     let top = boards::last(board);
-    Answer::Done(unmarked(&marks, top))
+    Answer::Done(unmarked(&live, top))
 }
 
 // Whether the board is accepted and has such a file: 0, or refused 1, 2, 3, 4.
