@@ -21,27 +21,37 @@ pub fn span(h: u64) -> u64
     64 << (3 * h)
 }
 
-// The walk to byte i of a tree.
+// The walk to byte i of a tree: a pointer is followed at each turn. A loop, since a read walks to each block.
 pub fn walk(board: &[u64], h: u64, k: u64, n: u64, i: u64) -> WalkEnd
     requires { ⌜ h < 8 ⌝ }
     ensures { λ r. ⌜ r ≡ walk 8 (now (board .entry)) h k n i ⌝ }
 {
-    if n == 0 {
+    let mut height = h;
+    let mut block = k;
+    let mut left = n;
+    let mut at = i;
+    while height != 0 {
+        let s = span(height - 1);
+        let j = at / s;
+        let first = j * s;
+        if block == 0 {
+            return WalkEnd::Hole;
+        }
+        if left <= first {
+            return WalkEnd::Hole;
+        }
+        block = cell(board, block, j) / 8;
+        left -= first;
+        at -= first;
+        height -= 1;
+    }
+    if block == 0 {
         return WalkEnd::Hole;
     }
-    if k == 0 {
+    if left == 0 {
         return WalkEnd::Hole;
     }
-    if h == 0 {
-        return WalkEnd::Block(k);
-    }
-    let s = span(h - 1);
-    let j = i / s;
-    let first = j * s;
-    if n <= first {
-        return WalkEnd::Hole;
-    }
-    walk(board, h - 1, cell(board, k, j) / 8, n - first, i % s)
+    WalkEnd::Block(block)
 }
 
 // The walk from a root word to byte i of a file of n bytes.
