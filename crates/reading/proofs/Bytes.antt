@@ -12,23 +12,31 @@ use Rattle.model.proofs.Walks.{root-walk-same}
 use Rattle.words.specs.Filled.{Filled}
 use Rattle.reading.specs.Results.{fileByte}
 
--- block k from byte `from` on, at its byte `from + j`, where the word is x
-module _ (b : List ℕ) (k from j : ℕ) {x : ℕ} (ex : x ≡ cell 8 b k ((from + j) / 8)) where
-  pub one-byte : {v : ℕ} → v ≡ byteOf x ((from + j) % 8) → v ≡ shown 8 b (Block k) (from + j)
-  unfolding shown
-  one-byte e = e ∙ rw ex
+-- byte `from + j` of block k, where its word is x
+pub one-byte : (b : List ℕ) (k from j : ℕ) {x v : ℕ} → x ≡ cell 8 b k ((from + j) / 8) → v ≡ byteOf x ((from + j) % 8) → v ≡ shown 8 b (Block k) (from + j)
+unfolding shown
+one-byte b k from j ex e = e ∙ rw ex
 
-  pub whole-word : (from + j) % 8 ≡ 0 → (i : ℕ) → i < 8 → byteOf x i ≡ shown 8 b (Block k) (from + (j + i))
-  unfolding shown
-  whole-word z i l =
-      let q : (from + (j + i)) / 8 ≡ (from + j) / 8 = omega arith in
-      let r : (from + (j + i)) % 8 ≡ i = omega arith in
-      rw (q, r, ← ex)
+-- the bytes of word `from + w`
+pub whole-word : (b : List ℕ) (k from w : ℕ) {x : ℕ} → x ≡ cell 8 b k (from + w) → (i : ℕ) → i < 8 → byteOf x i ≡ shown 8 b (Block k) (8 * from + (8 * w + i))
+unfolding shown
+whole-word b k from w ex i l =
+    let q : (8 * from + (8 * w + i)) / 8 ≡ from + w = omega arith in
+    let r : (8 * from + (8 * w + i)) % 8 ≡ i = omega arith in
+    rw (q, r, ← ex)
 
 -- a hole shows zeros
 pub hole-zeros : (b : List ℕ) (from : ℕ) {out out′ : List ℕ} {n : ℕ} → Filled (λ j. 0) n out out′ → Filled (λ j. shown 8 b Hole (from + j)) n out out′
 unfolding shown
 hole-zeros b from c = c
+
+-- whole words that are all of the bytes
+pub all-words : (b : List ℕ) (k from n : ℕ) {out out′ : List ℕ} → from % 8 ≡ 0 → n % 8 ≡ 0 →
+    Filled (λ j. shown 8 b (Block k) (8 * (from / 8) + j)) (8 * (n / 8)) out out′ → Filled (λ j. shown 8 b (Block k) (from + j)) n out out′
+all-words b k from n ef en c =
+    let f : 8 * (from / 8) ≡ from = omega arith in
+    let m : 8 * (n / 8) ≡ n = omega arith in
+    rw (f, m) at c
 
 -- a piece: some bytes, no more than are wanted, and all of one block
 pub record Piece (at done count len : ℕ) : Type 0 where

@@ -5,7 +5,7 @@ use words::byte;
 use words::cell;
 use words::spread;
 ghost use mathlib.Core.Path.{_≡_};
-ghost use Prim.Native.Nat.{_+_, _≤_, min};
+ghost use Prim.Native.Nat.{_+_, _*_, _≤_, min};
 ghost use lib.ListN.{length};
 ghost use Rattle.model.specs.Tree.{shown};
 ghost use Rattle.model.specs.declared.WalkEnd.the-variants.{Block};
@@ -24,8 +24,8 @@ pub fn clear(n: usize, out: &mut [u8])
     }
 }
 
-// n bytes of block k, from byte `from` of it on, to the front of a buffer: whole words where they can.
-pub fn copy_block(board: &[u64], k: u64, from: u64, n: usize, out: &mut [u8])
+// n bytes of block k, from byte `from` of it on, to the front of a buffer.
+pub fn copy_bytes(board: &[u64], k: u64, from: u64, n: usize, out: &mut [u8])
     requires { ⌜ (n ≤ length (now out)) × (from ≤ 64) ⌝ }
     ensures { λ _. ⌜ Filled (λ j. shown 8 (now (board .entry)) (Block k) (from + j)) n (now (out .entry)) (now (out .exit)) ⌝ }
 {
@@ -33,17 +33,26 @@ pub fn copy_block(board: &[u64], k: u64, from: u64, n: usize, out: &mut [u8])
     while j < n {
         let at = from + j as u64;
         let x = cell(board, k, at / 8);
-        if at % 8 == 0 && 8 <= n - j {
-            spread(x, &mut out[j..]);
-            j += 8;
-        } else {
-            out[j] = byte(x, at % 8);
-            j += 1;
-        }
+        out[j] = byte(x, at % 8);
+        j += 1;
     }
 }
 
-// The same where a walk ended.
+// n words of block k, from word `from` of it on, to the front of a buffer.
+pub fn copy_words(board: &[u64], k: u64, from: u64, n: usize, out: &mut [u8])
+    requires { ⌜ (8 * n ≤ length (now out)) × (from ≤ 8) ⌝ }
+    ensures { λ _. ⌜ Filled (λ j. shown 8 (now (board .entry)) (Block k) (8 * from + j)) (8 * n) (now (out .entry)) (now (out .exit)) ⌝ }
+{
+    let mut w = 0;
+    while w < n {
+        let x = cell(board, k, from + w as u64);
+        let at = 8 * w;
+        spread(x, &mut out[at..]);
+        w += 1;
+    }
+}
+
+// n bytes from byte `from` on of the block where a walk ended, whole words where that is all of them.
 pub fn copy(board: &[u64], end: WalkEnd, from: u64, n: usize, out: &mut [u8])
     requires { ⌜ (n ≤ length (now out)) × (from ≤ 64) ⌝ }
     ensures { λ _. ⌜ Filled (λ j. shown 8 (now (board .entry)) end (from + j)) n (now (out .entry)) (now (out .exit)) ⌝ }
@@ -52,7 +61,13 @@ pub fn copy(board: &[u64], end: WalkEnd, from: u64, n: usize, out: &mut [u8])
         clear(n, out);
         return;
     };
-    copy_block(board, k, from, n, out);
+    if from % 8 == 0 {
+        if n % 8 == 0 {
+            copy_words(board, k, from / 8, n / 8, out);
+            return;
+        }
+    }
+    copy_bytes(board, k, from, n, out);
 }
 
 fn least(a: usize, b: usize) -> usize
