@@ -1,19 +1,19 @@
 -- A survey's ways out, and what its marks tell of the free blocks.
-use mathlib.Core.Path.{_≡_, refl, sym, ap, _∙_}
+use mathlib.Core.Path.{_≡_, refl, sym, _∙_}
 use mathlib.Core.Bool.{Bool, true, false, not, cond, _&&_}
 use mathlib.Core.List.{List}
-use Prim.Native.Nat.{ℕ, _-_, _/_, _%_, _≤_, _<_}
+use Prim.Native.Nat.{ℕ, _-_, _%_, _≤_}
 use native.Mathlib.Omega.{arith}
 use lib.ListN.{length, replicate}
-use lib.Dec.{leb, ltb, eqb}
-use borrow.Author.Tests.{leb-true, not-true, not-false}
+use lib.Dec.{leb, eqb}
+use borrow.Author.Tests.{leb-true}
 use Rattle.model.specs.declared.Fault.{Fault}
 use Rattle.model.specs.declared.Fault.the-variants.{WordCount, Trailer, Damaged}
 use Rattle.model.specs.declared.Answer.{Answer}
 use Rattle.model.specs.declared.Answer.the-variants.{Done, Refused}
 use Rattle.model.specs.Lists.{every, pickFrom, member, distinct}
 use Rattle.model.specs.Layout.{house, files}
-use Rattle.model.specs.Board.{blockCount, inodeBlock, liveBlocks, free, wordCountSound, trailerSound, leafSound, fileSound, treesSound}
+use Rattle.model.specs.Board.{blockCount, liveBlocks, free, wordCountSound, trailerSound, leafSound, fileSound, treesSound}
 use Rattle.model.specs.Answers.{answered}
 use Rattle.model.specs.Calls.{wordCountFault, boardFaults, checkAnswer}
 use Rattle.model.proofs.Cases.{true-left, true-right}

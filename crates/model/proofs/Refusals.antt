@@ -1,6 +1,6 @@
 -- What a call answers whose list of faults begins with another's: the other's answer where that is a refusal, else that of the rest. So a call may
 -- ask the other first.
-use mathlib.Core.Path.{_≡_, refl, sym, _∙_}
+use mathlib.Core.Path.{_≡_, refl, _∙_}
 use mathlib.Core.Bool.{Bool, true, false, cond}
 use mathlib.Core.List.{[], _∷_, _++_, append-nil}
 use Prim.Native.Nat.{ℕ}

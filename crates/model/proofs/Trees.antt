@@ -8,7 +8,6 @@ use Prim.Native.Nat.{ℕ, zero, suc, _-_, _*_, _/_, _%_}
 use native.Mathlib.Nat.{zero-sub, zero-div}
 use native.Mathlib.Numerals.{sub-one}
 use lib.Dec.{ltb}
-use Rattle.model.specs.declared.WalkEnd.{WalkEnd}
 use Rattle.model.specs.declared.WalkEnd.the-variants.{Block, Hole}
 use Rattle.model.specs.Lists.{every, joined, sum}
 use Rattle.model.specs.Tree.{ending, span, aligned, cell, link, walk, blocks, sound}

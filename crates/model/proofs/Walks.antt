@@ -9,7 +9,7 @@ use lib.Arith.{mod-mul, digits-div}
 use lib.ListN.{take, drop}
 use lib.Seq.{take-at, drop-at}
 use lib.Dec.{ltb}
-use borrow.Author.Tests.{ltb-true, ltb-false, lt-ltb, le-ltb}
+use borrow.Author.Tests.{ltb-true, ltb-false, lt-ltb}
 use Rattle.model.specs.Lists.{tabulate}
 use Rattle.model.specs.Tree.{span, link, walk}
 use Rattle.model.specs.Board.{rootWalk}

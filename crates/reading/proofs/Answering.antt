@@ -1,8 +1,8 @@
 -- The ways out of the calls that begin with a check.
-use mathlib.Core.Path.{_≡_, refl, sym, ap, _∙_}
+use mathlib.Core.Path.{_≡_, sym, ap, _∙_}
 use mathlib.Core.Logic.{inl, inr}
-use mathlib.Core.List.{List, [], _∷_, _++_}
-use Prim.Native.Nat.{ℕ, _+_, _-_, _%_, _≤_, _<_, min}
+use mathlib.Core.List.{List, [], _∷_}
+use Prim.Native.Nat.{ℕ, _+_, _-_, _≤_, _<_, min}
 use native.Mathlib.Omega.{arith}
 use lib.ListN.{length, take, drop}
 use lib.Dec.{leb}
@@ -13,14 +13,13 @@ use Rattle.model.specs.declared.Answer.{Answer}
 use Rattle.model.specs.declared.Answer.the-variants.{Done, Refused}
 use Rattle.model.specs.Lists.{tabulate, pickFrom}
 use Rattle.model.specs.Layout.{house, files}
-use Rattle.model.specs.Tree.{span, shown}
+use Rattle.model.specs.Tree.{span}
 use Rattle.model.specs.Board.{blockCount, root, size, walkTo, contents, free}
-use Rattle.model.specs.Answers.{Faults, answered, unlessRefused}
-use Rattle.model.specs.Calls.{boardFaults, fileFaults, checkAnswer, freeCountAnswer, sizeAnswer, readCount, readAnswer, readBuffer}
+use Rattle.model.specs.Answers.{answered, unlessRefused}
+use Rattle.model.specs.Calls.{boardFaults, fileFaults, checkAnswer, freeCountAnswer, readCount, readAnswer, readBuffer}
 use Rattle.model.proofs.Cases.{split}
 use Rattle.model.proofs.Walks.{tabulate-part}
 use Rattle.model.proofs.Refusals.{first-refused, first-done, same-refused, same-done}
-use Rattle.words.specs.Filled.{Filled}
 use Rattle.boards.specs.Survey.{spare, Surveyed}
 use Rattle.boards.proofs.Surveying.{free-spare}
 use Rattle.reading.specs.Results.{fileByte, FillResult, ReadResult}

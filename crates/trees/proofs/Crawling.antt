@@ -1,5 +1,5 @@
 -- A crawl, one level at a time. A record's parameters are found from the goal, so all but the facts are implicit.
-use mathlib.Core.Path.{_≡_, refl, _∙_}
+use mathlib.Core.Path.{_≡_, refl}
 use mathlib.Core.Logic.{_≢_}
 use mathlib.Core.Bool.{Bool, true, false, _&&_}
 use mathlib.Core.List.{List, [], _∷_, _++_}
@@ -8,7 +8,7 @@ use native.Mathlib.Omega.{arith}
 use lib.Dec.{ltb, eqb}
 use borrow.Author.Tests.{eq-eqb, ne-eqb}
 use Rattle.model.specs.Lists.{every, joined}
-use Rattle.model.specs.Tree.{span, aligned, cell, blocks, sound}
+use Rattle.model.specs.Tree.{span, aligned, cell}
 use Rattle.model.proofs.Trees.{childBlocks, childSound, blocksUnder, soundUnder, blocks-children, sound-children, blocks-dead, blocks-null, blocks-here, sound-dead, sound-null, sound-here}
 use Rattle.trees.specs.Marks.{Marked}
 use Rattle.trees.specs.Trees.{Crawled}

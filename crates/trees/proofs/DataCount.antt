@@ -2,14 +2,11 @@
 use mathlib.Core.Path.{_≡_, refl, sym, _∙_}
 use mathlib.Core.Logic.{_≢_}
 use mathlib.Core.List.{List}
-use Prim.Native.Nat.{ℕ, zero, suc, _+_, _-_, _*_, _/_, _≤_, _<_}
-use native.Mathlib.Nat.{mul-le-mul-left}
+use Prim.Native.Nat.{ℕ, zero, suc, _+_, _-_, _*_, _/_, _≤_}
 use native.Mathlib.Numerals.{add-one, sub-one}
 use native.Mathlib.Omega.{arith}
 use Rattle.model.specs.Lists.{sum}
 use Rattle.model.specs.Tree.{span, cell}
-use Rattle.model.specs.Lister.{dataBlocks}
-use Rattle.model.proofs.Spans.{span-mono}
 use Rattle.model.proofs.Trees.{childData, data-dead, data-null, data-here, data-children}
 use Rattle.trees.specs.Trees.{Counted}
 

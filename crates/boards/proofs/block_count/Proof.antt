@@ -1,4 +1,3 @@
-use borrow.Author.Needs.{needs}
 use mathlib.Core.Path.{refl}
 use Rattle.model.specs.Board.{blockCount}
 use Rattle.boards.proofs.block_count.Statement.{statement}

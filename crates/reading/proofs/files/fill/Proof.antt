@@ -1,11 +1,10 @@
 use borrow.Author.Needs.{needs}
 use mathlib.Core.Path.{_≡_, refl}
-use Prim.Native.Nat.{ℕ, _+_, _-_, _%_, _≤_, _<_}
+use Prim.Native.Nat.{_+_, _-_, _≤_}
 use native.Mathlib.Nat.{lt-of-le-of-lt}
 use native.Mathlib.Omega.{arith}
 use lib.ListN.{length, length-drop}
 use borrow.Rule.Slice.PartAt.{part-to-end}
-use Rattle.model.specs.Lists.{tabulate}
 use Rattle.words.specs.Filled.{Filled}
 use Rattle.words.proofs.Filling
 use Rattle.reading.specs.Results.{fileByte}
