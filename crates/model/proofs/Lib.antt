@@ -1,4 +1,5 @@
--- Theorems about the definitions of specs/: loops and counting (Cases, Counting), spans (Spans), trees one level at a time (Trees), where live blocks lie (Live), walks block by block (Walks), lists of faults (Refusals), stores (Perform), format (Formatted),
+-- Theorems about the definitions of specs/: loops and counting (Cases, Counting), spans (Spans), trees one level at a time (Trees), where live
+-- blocks lie (Live), walks block by block (Walks), lists of faults (Refusals), stores (Perform), format (Formatted),
 -- and the marked examples by computation (Computing, Marked).
 pub mod Cases
 pub mod Counting

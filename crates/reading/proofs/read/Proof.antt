@@ -11,4 +11,6 @@ returns-2 c = let f = c .before .before in let t = f .before .before .before .be
     read-bytes (t .before .before .check-file .ensures) (t .enum-told .given .1) (f .before .before .before .root .ensures) (f .before .before .size .ensures) (f .fill .ensures)
 
 pub read-spec : {M : Type 1} → statement M
-read-spec = tie.close (tie.spec (λ c κs. search needs) (λ c. search needs) (λ c. search needs) returns (λ c κs. search needs) (λ c κs. search needs) (λ c κs. search needs) (λ c. search needs) returns-2)
+read-spec =
+    tie.close (tie.spec (λ c κs. search needs) (λ c. search needs) (λ c. search needs) returns (λ c κs. search needs) (λ c κs. search needs)
+    (λ c κs. search needs) (λ c. search needs) returns-2)

@@ -53,7 +53,8 @@ module _ (t : ℕ) where
       Marked (every 8 (Crawling.kidSound (a .top) (a .board .now) (a .h - 1) (a .k) (a .n))) (joined 8 (Crawling.kidBlocks (a .top) (a .board .now) (a .h - 1) (a .k) (a .n)))
       (u .before .claim .last .0) ok m → Crawled (a .top) (a .board .now) (a .h) (a .k) (a .n) (a .marks .now) ok m
   node c = let u = c .before .before .before .before in
-      Crawling.node (u .before .before .before .before .if1 .left) (u .before .before .before .if2 .left) (u .before .claim .ensures) (not-false _ (c .before .before .if3 .left)) (c .before .if4 .left)
+      Crawling.node (u .before .before .before .before .if1 .left) (u .before .before .before .if2 .left) (u .before .claim .ensures)
+      (not-false _ (c .before .before .if3 .left)) (c .before .if4 .left)
 
   returns : N lts.Need-returns
   returns c = Crawling.dead (c .if1 .taken)
@@ -98,7 +99,8 @@ module _ (t : ℕ) where
 
   returns-5 : N lts.Need-returns-5
   returns-5 c = let l = c .before .before .before .before in let a = l .before .before .before .before .before .before .before .before .before .before .before .before .args in
-      node (l .before) (Marking.stop {m₂ = l .loop .marks} (l .loop .inv .2) (Crawling.kid-low (a .top) (a .board .now) (a .h - 1) (a .k) (a .n) (l .loop .j) (l .before .span .ensures .is) (c .before .cell .ensures) (c .before .before .if5 .taken) (c .if6 .taken)) (c .before .before .before .loop-test .taken) refl)
+      let kid = Crawling.kid-low (a .top) (a .board .now) (a .h - 1) (a .k) (a .n) (l .loop .j) (l .before .span .ensures .is) (c .before .cell .ensures) (c .before .before .if5 .taken) (c .if6 .taken) in
+      node (l .before) (Marking.stop {m₂ = l .loop .marks} (l .loop .inv .2) kid (c .before .before .before .loop-test .taken) refl)
 
   sub-crawl : N lts.Need-sub-crawl
   sub-crawl c = omega arith
@@ -113,8 +115,11 @@ module _ (t : ℕ) where
   same-length-4 c = search needs
 
   returns-6 : N lts.Need-returns-6
-  returns-6 c = let x = c .before .before .before .before .before in let l = x .before .before .before .before in let a = l .before .before .before .before .before .before .before .before .before .before .before .before .args in
-      node (l .before) (Marking.stop (l .loop .inv .2) (Crawling.kid-live (a .top) (a .board .now) (a .h - 1) (a .k) (a .n) (l .loop .j) (l .before .span .ensures .is) (x .before .cell .ensures) (x .before .before .if5 .taken) (x .if6 .left) (c .before .before .before .crawl .ensures)) (x .before .before .before .loop-test .taken) (not-true _ (c .if7 .taken)))
+  returns-6 c = let x = c .before .before .before .before .before in let l = x .before .before .before .before in
+      let a = l .before .before .before .before .before .before .before .before .before .before .before .before .args in
+      let kid = Crawling.kid-live (a .top) (a .board .now) (a .h - 1) (a .k) (a .n) (l .loop .j) (l .before .span .ensures .is) (x .before .cell .ensures) (x .before .before .if5 .taken) (x .if6 .left)
+      (c .before .before .before .crawl .ensures) in
+      node (l .before) (Marking.stop (l .loop .inv .2) kid (x .before .before .before .loop-test .taken) (not-true _ (c .if7 .taken)))
 
   add-j : N lts.Need-add-j
   add-j c = omega arith
@@ -128,9 +133,15 @@ module _ (t : ℕ) where
       (λ w. rw (w .8) (
         omega arith,
         w .4 .kept .1 .0 ∙ l .loop .inv .1,
-        Marking.step (l .loop .inv .2) (Crawling.kid-live (a .top) (a .board .now) (a .h - 1) (a .k) (a .n) (l .loop .j) (l .before .span .ensures .is) (w .1 .ensures) (w .0 .taken) (w .2 .left) (w .4 .ensures)) (not-false _ (w .7 .left)),
+        Marking.step (l .loop .inv .2)
+            (Crawling.kid-live (a .top) (a .board .now) (a .h - 1) (a .k) (a .n) (l .loop .j) (l .before .span .ensures .is) (w .1 .ensures) (w .0 .taken) (w .2 .left) (w .4 .ensures))
+            (not-false _ (w .7 .left)),
       ))
-      (λ w. rw (w .1) (omega arith, l .loop .inv .1, Marking.step (l .loop .inv .2) (Crawling.kid-dead (a .top) (a .board .now) (a .h - 1) (a .k) (a .n) (l .loop .j) (l .before .span .ensures .is) (w .0 .left)) refl))
+      (λ w. rw (w .1) (
+        omega arith,
+        l .loop .inv .1,
+        Marking.step (l .loop .inv .2) (Crawling.kid-dead (a .top) (a .board .now) (a .h - 1) (a .k) (a .n) (l .loop .j) (l .before .span .ensures .is) (w .0 .left)) refl,
+      ))
       (c .if5 .came)
 
   same-length-5 : N lts.Need-same-length-5

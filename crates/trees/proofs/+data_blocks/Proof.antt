@@ -87,8 +87,10 @@ module _ (t : ℕ) where
   loop-again : N lts.Need-loop-again
   loop-again c = let l = c .before .before in let a = l .before .before .before .before .before .before .args in
       ⊎-elim
-      (λ w. let q = DataCount.add (a .board .now) (a .h - 1) (a .k) (a .n) (l .loop .j) (l .before .span .ensures .is) (l .loop .inv .1) (l .loop .inv .2) (w .1 .ensures) (w .2 .ensures) in rw (w .3) (omega arith, q .0, q .1))
-      (λ w. let q = DataCount.skip (a .board .now) (a .h - 1) (a .k) (a .n) (l .loop .j) (l .before .span .ensures .is) (l .loop .inv .1) (l .loop .inv .2) (w .0 .left) in rw (w .1) (omega arith, q .0, q .1))
+      (λ w. let q = DataCount.add (a .board .now) (a .h - 1) (a .k) (a .n) (l .loop .j) (l .before .span .ensures .is) (l .loop .inv .1) (l .loop .inv .2) (w .1 .ensures) (w .2 .ensures) in
+      rw (w .3) (omega arith, q .0, q .1))
+      (λ w. let q = DataCount.skip (a .board .now) (a .h - 1) (a .k) (a .n) (l .loop .j) (l .before .span .ensures .is) (l .loop .inv .1) (l .loop .inv .2) (w .0 .left) in
+      rw (w .1) (omega arith, q .0, q .1))
       (c .if4 .came)
 
   returns-4 : N lts.Need-returns-4

@@ -55,7 +55,8 @@ loop-again : tie.Need-loop-again Inv-loop μ-loop
 loop-again c = let p = c .before .before .before in let l = p .before .before in let b = l .before .before .args .board .now in (
   omega arith,
   omega arith,
-  down b (l .loop .height) (l .loop .block) (l .loop .left) (l .loop .at) (p .span .result) (c .cell .result) (p .before .loop-test .taken) (c .before .before .if1 .left) (p .span .ensures .is) (c .cell .ensures)
+  down b (l .loop .height) (l .loop .block) (l .loop .left) (l .loop .at) (p .span .result) (c .cell .result)
+      (p .before .loop-test .taken) (c .before .before .if1 .left) (p .span .ensures .is) (c .cell .ensures)
       ∙ l .loop .inv .2,
 )
 
@@ -72,4 +73,6 @@ returns-5 c = let l = c .before .before .before in let b = l .before .before .ar
     sym (walk-here 8 b (l .loop .block) (l .loop .left) (l .loop .at) (c .if4 .left) (c .before .if3 .left)) ∙ rw (c .before .before .loop-test .left) at (l .loop .inv .2)
 
 pub walk-spec : {M : Type 1} → statement M
-walk-spec = tie.close (tie.spec Inv-loop μ-loop loop-holds (λ c. search needs) (λ c κs. search needs) div-j mul-first returns returns-2 (λ c κs. search needs) (λ c. search needs) sub-at (λ c. search needs) (λ c. search needs) loop-again returns-3 returns-4 returns-5)
+walk-spec =
+    tie.close (tie.spec Inv-loop μ-loop loop-holds (λ c. search needs) (λ c κs. search needs) div-j mul-first returns returns-2 (λ c κs. search needs)
+    (λ c. search needs) sub-at (λ c. search needs) (λ c. search needs) loop-again returns-3 returns-4 returns-5)

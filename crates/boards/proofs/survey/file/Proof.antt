@@ -19,4 +19,6 @@ returns-4 c = let t = c .before .before .before .before in let u = t .before .be
     (c .before .before .crawl .ensures)
 
 pub file-spec : {M : Type 1} → statement M
-file-spec = tie.close (tie.spec (λ c κs. search needs) returns returns-2 (λ c κs. search needs) returns-3 (λ c κs. search needs) (λ c κs. search needs) (λ c. search needs) returns-4)
+file-spec =
+    tie.close (tie.spec (λ c κs. search needs) returns returns-2 (λ c κs. search needs) returns-3 (λ c κs. search needs) (λ c κs. search needs)
+    (λ c. search needs) returns-4)

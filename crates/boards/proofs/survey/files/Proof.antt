@@ -31,4 +31,6 @@ returns-2 : tie.Need-returns-2 Inv-loop μ-loop
 returns-2 c = Marking.all (c .before .loop .inv .2) (omega arith)
 
 pub files-spec : {M : Type 1} → statement M
-files-spec = tie.close (tie.spec Inv-loop μ-loop loop-holds (λ c κs. search needs) (λ c. search needs) returns (λ c. search needs) (λ c. search needs) loop-again (λ c. search needs) returns-2)
+files-spec =
+    tie.close (tie.spec Inv-loop μ-loop loop-holds (λ c κs. search needs) (λ c. search needs) returns (λ c. search needs) (λ c. search needs)
+    loop-again (λ c. search needs) returns-2)

@@ -23,7 +23,8 @@ loop-holds c = (omega arith, refl, Marking.start)
 
 returns : tie.Need-returns Inv-loop μ-loop
 returns c = let k = c .before .before .before in let l = k .before .before .before in
-    Marking.same refl (leaf-lists 8 (leaf house (l .before .before .before .args .board .now))) (Marking.stop (l .loop .inv .2) (k .leaf .ensures) (k .before .before .loop-test .taken) (not-true _ (c .if1 .taken)))
+    Marking.same refl (leaf-lists 8 (leaf house (l .before .before .before .args .board .now)))
+    (Marking.stop (l .loop .inv .2) (k .leaf .ensures) (k .before .before .loop-test .taken) (not-true _ (c .if1 .taken)))
 
 loop-again : tie.Need-loop-again Inv-loop μ-loop
 loop-again c = let k = c .before .before .before in let l = k .before .before .before in
@@ -33,4 +34,6 @@ returns-2 : tie.Need-returns-2 Inv-loop μ-loop
 returns-2 c = Marking.same refl (leaf-lists 8 (leaf house (c .before .before .before .before .args .board .now))) (Marking.all (c .before .loop .inv .2) (omega arith))
 
 pub leaves-spec : {M : Type 1} → statement M
-leaves-spec = tie.close (tie.spec Inv-loop μ-loop loop-holds (λ c κs. search needs) (λ c. search needs) returns (λ c. search needs) (λ c. search needs) loop-again (λ c. search needs) returns-2)
+leaves-spec =
+    tie.close (tie.spec Inv-loop μ-loop loop-holds (λ c κs. search needs) (λ c. search needs) returns (λ c. search needs) (λ c. search needs)
+    loop-again (λ c. search needs) returns-2)

@@ -21,4 +21,6 @@ returns-4 c = let l = c .before .before .before in let t = l .before .before .be
     (l .live .ensures) (not-false _ (c .if3 .left))
 
 pub survey-spec : {M : Type 1} → statement M
-survey-spec = tie.close (tie.spec (λ c κs. search needs) returns (λ c κs. search needs) returns-2 (λ c κs. search needs) (λ c. search needs) returns-3 (λ c. search needs) returns-4)
+survey-spec =
+    tie.close (tie.spec (λ c κs. search needs) returns (λ c κs. search needs) returns-2 (λ c κs. search needs) (λ c. search needs) returns-3
+    (λ c. search needs) returns-4)

@@ -46,4 +46,6 @@ returns c = let l = c .before in let a = l .before .before .args in
     omega (arith, ap length (pick-none (l .loop .k) (a .top) (spare (a .marks .now)) (c .loop-test .left)), l .loop .inv .2)
 
 pub unmarked-spec : {M : Type 1} → statement M
-unmarked-spec = tie.close (tie.spec Inv-loop μ-loop loop-holds (λ c κs. search needs) (λ c. search needs) (λ c. search needs) (λ c. search needs) loop-again returns)
+unmarked-spec =
+    tie.close (tie.spec Inv-loop μ-loop loop-holds (λ c κs. search needs) (λ c. search needs) (λ c. search needs) (λ c. search needs) loop-again
+    returns)

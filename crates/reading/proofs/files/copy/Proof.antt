@@ -15,4 +15,6 @@ returns-3 : tie.Need-returns-3
 returns-3 c = let b = c .before .before in rw (b .before .before .before .before .end .given .1) (b .copy-bytes .ensures)
 
 pub copy-spec : {M : Type 1} → statement M
-copy-spec = tie.close (tie.spec (λ c. search needs) (λ c. search needs) (λ c κs. search needs) (λ c. search needs) returns (λ c κs. search needs) (λ c. search needs) returns-2 (λ c κs. search needs) (λ c. search needs) returns-3)
+copy-spec =
+    tie.close (tie.spec (λ c. search needs) (λ c. search needs) (λ c κs. search needs) (λ c. search needs) returns (λ c κs. search needs)
+    (λ c. search needs) returns-2 (λ c κs. search needs) (λ c. search needs) returns-3)

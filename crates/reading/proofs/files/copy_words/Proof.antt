@@ -35,4 +35,6 @@ returns : tie.Need-returns Inv-loop μ-loop
 returns c = let l = c .before in let e : l .loop .w ≡ l .before .before .before .args .n = omega arith in rw e at (l .loop .inv .2)
 
 pub copy-words-spec : {M : Type 1} → statement M
-copy-words-spec = tie.close (tie.spec Inv-loop μ-loop loop-holds (λ c. search needs) (λ c κs. search needs) (λ c. search needs) (λ c. search needs) (λ c. search needs) (λ c. search needs) spread-requires (λ c. search needs) (λ c. search needs) loop-again (λ c. search needs) returns)
+copy-words-spec =
+    tie.close (tie.spec Inv-loop μ-loop loop-holds (λ c. search needs) (λ c κs. search needs) (λ c. search needs) (λ c. search needs)
+    (λ c. search needs) (λ c. search needs) spread-requires (λ c. search needs) (λ c. search needs) loop-again (λ c. search needs) returns)

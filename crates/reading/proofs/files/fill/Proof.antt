@@ -57,11 +57,15 @@ loop-again : tie.Need-loop-again Inv-loop μ-loop
 loop-again c = let w = c .before .before .before .before in let f = w .before in let l = f .before .before in let a = l .before .before .before .before .before .args in
     let p = part f in
     let r = room l in
-    let next = Filling.lent (l .loop .inv .2) (omega arith) (rw (w .root-walk .ensures) (pieces (a .board .now) (a .root) (a .n) (a .o) (l .loop .done) (f .least2 .result) (p .inside))) (c .before .before .copy .ensures) in
+    let same = pieces (a .board .now) (a .root) (a .n) (a .o) (l .loop .done) (f .least2 .result) (p .inside) in
+    let next = Filling.lent (l .loop .inv .2) (omega arith) (rw (w .root-walk .ensures) same) (c .before .before .copy .ensures) in
     (p .wanted, Filling.same-length next (omega arith), next)
 
 returns-2 : tie.Need-returns-2 Inv-loop μ-loop
 returns-2 c = let l = c .before in let e : l .loop .done ≡ l .before .least .result = omega arith in record { count = l .before .least .ensures; bytes = rw e at (l .loop .inv .2) }
 
 pub fill-spec : {M : Type 1} → statement M
-fill-spec = tie.close (tie.spec Inv-loop μ-loop returns (λ c. search needs) (λ c κs. search needs) loop-holds (λ c. search needs) (λ c. search needs) (λ c. search needs) (λ c κs. search needs) (λ c κs. search needs) sub-copy part-copy-start (λ c. search needs) copy-requires add-done loop-less loop-again (λ c. search needs) returns-2)
+fill-spec =
+    tie.close (tie.spec Inv-loop μ-loop returns (λ c. search needs) (λ c κs. search needs) loop-holds (λ c. search needs) (λ c. search needs)
+    (λ c. search needs) (λ c κs. search needs) (λ c κs. search needs) sub-copy part-copy-start (λ c. search needs) copy-requires add-done loop-less
+    loop-again (λ c. search needs) returns-2)
