@@ -4,7 +4,8 @@ use mathlib.Core.List.{List, _∷_, _++_}
 use Prim.Native.Nat.{ℕ, _+_, _≤_}
 use lib.ListN.{length}
 use lib.Seq.{sets}
-use Rattle.model.specs.Lister.{decimal}
+use Rattle.model.specs.Layout.{house}
+use Rattle.model.specs.Lister.{decimal, listing}
 
 -- The text stands in the buffer from p on, as far as the buffer goes, and r is the position after it. It has at most `most` bytes.
 pub record Wrote (most : ℕ) (text : List ℕ) (p : ℕ) (out : List ℕ) (r : ℕ) (out′ : List ℕ) : Type 0 where
@@ -15,3 +16,9 @@ pub record Wrote (most : ℕ) (text : List ℕ) (p : ℕ) (out : List ℕ) (r : 
 -- how a line begins: a word, a blank and a number
 abbrev pub entry : List ℕ → ℕ → List ℕ
 entry word n = word ++ (32 ∷ decimal n)
+
+-- the listing of an image stands at the front of the buffer, as far as the buffer goes, and r is its length
+pub record Listed (image out : List ℕ) (r : ℕ) (out′ : List ℕ) : Type 0 where
+  pub count : r ≡ length (listing house image)
+  pub most : r ≤ 4096
+  pub bytes : out′ ≡ sets out 0 (listing house image)

@@ -1,0 +1,2 @@
+-- What the functions ensure.
+pub mod Loading

@@ -1,0 +1,85 @@
+// The calls of the cabinet's C program, on a board image held as bytes. Each answers what the definition of its name answers, on all inputs.
+use model::Answer;
+use model::Fault;
+ghost use mathlib.Core.Path.{_≡_};
+ghost use Prim.Native.Nat.{_<_, _≤_, _^_};
+ghost use lib.ListN.{length};
+ghost use Rattle.model.specs.Answers.{number, signed, counted};
+ghost use Rattle.model.specs.Layout.{house};
+ghost use Rattle.model.specs.Cabinet.{imageCheck, imageSize};
+ghost use Rattle.cabinet.specs.Loading.{Loaded, ImageReadResult};
+
+// Decodes an image and answers how many words its board has: none where the image is refused for its byte count.
+pub fn load(image: &[u8], words: &mut [u64]) -> usize
+    requires { ⌜ 8192 ≤ length (now words) ⌝ }
+    ensures { λ r. ⌜ Loaded (now (image .entry)) r (now (words .exit)) ⌝ }
+{
+    let n = image.len();
+    if n % 8 != 0 {
+        return 0;
+    }
+    if 65536 < n {
+        return 0;
+    }
+    images::decode(image, words);
+    n / 8
+}
+
+// The number of a refusal.
+pub fn number(fault: Fault) -> u64
+    ensures { λ r. ⌜ r ≡ number fault ⌝ }
+{
+    match fault {
+        Fault::WordCount => 1,
+        Fault::Trailer => 2,
+        Fault::Damaged => 3,
+        Fault::FileNumber => 4,
+        Fault::Offset => 5,
+        Fault::End => 6,
+        Fault::FreeBlocks => 7,
+        Fault::PlanLength => 8,
+        Fault::PairCount => 9,
+        Fault::Address => 10,
+    }
+}
+
+// An answer as C gets it.
+fn signed(answer: Answer) -> i64
+    requires { ⌜ counted answer < 2 ^ 63 ⌝ }
+    ensures { λ r. ⌜ r ≡ signed answer ⌝ }
+{
+    match answer {
+        Answer::Done(n) => n as i64,
+        Answer::Refused(fault) => -(number(fault) as i64),
+    }
+}
+
+// Check: 0, or -1, -2, -3.
+#[no_mangle]
+pub extern "C" fn montebeech_check(image: &[u8]) -> i64
+    ensures { λ r. ⌜ r ≡ imageCheck house (now (image .entry)) ⌝ }
+{
+    let mut words = [0u64; 8192];
+    let n = load(image, &mut words);
+    signed(reading::check(&words[..n]))
+}
+
+// Size: a file's size, or -1, -2, -3, -4.
+#[no_mangle]
+pub extern "C" fn montebeech_size(image: &[u8], file: u64) -> i64
+    ensures { λ r. ⌜ r ≡ imageSize house (now (image .entry)) file ⌝ }
+{
+    let mut words = [0u64; 8192];
+    let n = load(image, &mut words);
+    signed(reading::size(&words[..n], file))
+}
+
+// Read: fills `out` from byte `offset` on and answers the count, or -1, -2, -3, -4.
+#[no_mangle]
+pub extern "C" fn montebeech_read(image: &[u8], file: u64, offset: u64, out: &mut [u8]) -> i64
+    ensures { λ r. ⌜ ImageReadResult (now (image .entry)) file offset (now (out .entry)) r (now (out .exit)) ⌝ }
+{
+    let mut words = [0u64; 8192];
+    let n = load(image, &mut words);
+    signed(reading::read(&words[..n], file, offset, out))
+}
