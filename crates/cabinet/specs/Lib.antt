@@ -1,2 +1,1 @@
--- What the functions ensure.
-pub mod Loading
+pub mod Results

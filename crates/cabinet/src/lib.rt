@@ -1,47 +1,13 @@
 // The calls of the cabinet's C program, on a board image held as bytes. Each answers what the definition of its name answers, on all inputs.
+use images::load;
 use model::Answer;
-use model::Fault;
+use model::number;
 ghost use mathlib.Core.Path.{_≡_};
-ghost use Prim.Native.Nat.{_<_, _≤_, _^_};
-ghost use lib.ListN.{length};
-ghost use Rattle.model.specs.Answers.{number, signed, counted};
+ghost use Prim.Native.Nat.{_<_, _^_};
+ghost use Rattle.model.specs.Answers.{signed, counted};
 ghost use Rattle.model.specs.Layout.{house};
 ghost use Rattle.model.specs.Cabinet.{imageCheck, imageSize};
-ghost use Rattle.cabinet.specs.Loading.{Loaded, ImageReadResult};
-
-// Decodes an image and answers how many words its board has: none where the image is refused for its byte count.
-pub fn load(image: &[u8], words: &mut [u64]) -> usize
-    requires { ⌜ 8192 ≤ length (now words) ⌝ }
-    ensures { λ r. ⌜ Loaded (now (image .entry)) r (now (words .exit)) ⌝ }
-{
-    let n = image.len();
-    if n % 8 != 0 {
-        return 0;
-    }
-    if 65536 < n {
-        return 0;
-    }
-    images::decode(image, words);
-    n / 8
-}
-
-// The number of a refusal.
-pub fn number(fault: Fault) -> u64
-    ensures { λ r. ⌜ r ≡ number fault ⌝ }
-{
-    match fault {
-        Fault::WordCount => 1,
-        Fault::Trailer => 2,
-        Fault::Damaged => 3,
-        Fault::FileNumber => 4,
-        Fault::Offset => 5,
-        Fault::End => 6,
-        Fault::FreeBlocks => 7,
-        Fault::PlanLength => 8,
-        Fault::PairCount => 9,
-        Fault::Address => 10,
-    }
-}
+ghost use Rattle.cabinet.specs.Results.{ImageReadResult};
 
 // An answer as C gets it.
 fn signed(answer: Answer) -> i64

@@ -1,10 +1,10 @@
-// Decoding a board image: eight bytes to a word, byte 0 first.
+// A board image: eight bytes to a word, byte 0 first.
 ghost use mathlib.Core.Path.{_≡_};
 ghost use mathlib.Core.List.{_++_};
 ghost use Prim.Native.Nat.{_+_, _/_, _≤_, _<_};
 ghost use lib.ListN.{length, getD, drop};
 ghost use Rattle.model.specs.Words.{wordOf, wordsOf};
-ghost use Rattle.images.specs.Post.{ByteAt};
+ghost use Rattle.images.specs.Images.{ByteAt, Loaded};
 
 // The byte at an index.
 fn byte_at(image: &[u8], at: usize) -> u64
@@ -39,4 +39,20 @@ pub fn decode(image: &[u8], words: &mut [u64])
         words[i] = word_at(image, 8 * i);
         i += 1;
     }
+}
+
+// Decodes an image and answers how many words its board has: none where the image is refused for its byte count.
+pub fn load(image: &[u8], words: &mut [u64]) -> usize
+    requires { ⌜ 8192 ≤ length (now words) ⌝ }
+    ensures { λ r. ⌜ Loaded (now (image .entry)) r (now (words .exit)) ⌝ }
+{
+    let n = image.len();
+    if n % 8 != 0 {
+        return 0;
+    }
+    if 65536 < n {
+        return 0;
+    }
+    decode(image, words);
+    n / 8
 }

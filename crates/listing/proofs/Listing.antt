@@ -19,8 +19,8 @@ use Rattle.model.specs.Lister.{field, line, fileLine, boardLines, answerLines, 
 use Rattle.model.specs.Lister.{word-blocks, word-free, word-file, word-size, word-height, word-data, word-refused}
 use Rattle.model.proofs.Refusals.{same-refused, same-done}
 use Rattle.trees.specs.Trees.{Counted}
-use Rattle.cabinet.specs.Loading.{boardOf, Loaded}
-use Rattle.cabinet.proofs.Boards.{read-as, check-answer}
+use Rattle.images.specs.Images.{boardOf, Loaded}
+use Rattle.images.proofs.Boards.{read-as, check-answer}
 use Rattle.listing.specs.Wrote.{Wrote, Listed}
 use Rattle.listing.proofs.Writing.{none, both, loose, more}
 

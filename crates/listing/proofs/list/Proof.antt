@@ -1,5 +1,5 @@
 use borrow.Author.Needs.{needs}
-use Rattle.cabinet.proofs.Boards.{length-part}
+use Rattle.images.proofs.Boards.{length-part}
 use Rattle.listing.proofs.Listing.{listed}
 use Rattle.listing.proofs.list.Statement.{statement}
 use Rattle.listing.proofs.list.Tie as tie

@@ -1,7 +1,7 @@
 use borrow.Author.Needs.{needs}
-use Rattle.cabinet.proofs.Boards.{part-of-word, too-long, decoded}
-use Rattle.cabinet.proofs.load.Statement.{statement}
-use Rattle.cabinet.proofs.load.Tie as tie
+use Rattle.images.proofs.Boards.{part-of-word, too-long, decoded}
+use Rattle.images.proofs.load.Statement.{statement}
+use Rattle.images.proofs.load.Tie as tie
 
 returns : tie.Need-returns
 returns c = part-of-word (c .before .before .before .args .image .now) (c .if1 .taken)

@@ -1,14 +1,16 @@
--- What the functions ensure: the board that an image is read as, and what a read answers and leaves.
+-- The board that an image is read as.
 use mathlib.Core.Path.{_≡_}
 use mathlib.Core.Bool.{cond, _&&_}
 use mathlib.Core.List.{List, []}
-use Prim.Native.Nat.{ℕ, _%_, _≤_}
-use lib.ListN.{length, take}
+use Prim.Native.Nat.{ℕ, _%_, _≤_, _<_}
+use lib.ListN.{length, getD, take}
 use lib.Dec.{leb, eqb}
-use lib.IntN.{ℤ}
 use Rattle.model.specs.Words.{wordsOf}
-use Rattle.model.specs.Layout.{house}
-use Rattle.model.specs.Cabinet.{imageRead, imageReadBuffer}
+
+-- r is the byte at an index
+pub record ByteAt (image : List ℕ) (at r : ℕ) : Type 0 where
+  pub is : r ≡ getD image at 0
+  pub small : r < 256
 
 -- The board that an image is read as: its words, or none where its bytes are no whole number of words or more than a board's. A board of no words is
 -- refused 1, as such an image is.
@@ -19,8 +21,3 @@ boardOf image = cond (eqb (length image % 8) 0 && leb (length image) 65536) (wor
 pub record Loaded (image : List ℕ) (n : ℕ) (words : List ℕ) : Type 0 where
   pub within : n ≤ length words
   pub board : take n words ≡ boardOf image
-
--- the number and the buffer are the definition's
-pub record ImageReadResult (image : List ℕ) (f o : ℕ) (out : List ℕ) (r : ℤ) (out′ : List ℕ) : Type 0 where
-  pub answer : r ≡ imageRead house image f o out
-  pub buffer : out′ ≡ imageReadBuffer house image f o out
