@@ -1,7 +1,7 @@
 // The calls of the cabinet's C program, on a board image held as bytes. Each answers what the definition of its name answers, on all inputs.
 use images::load;
 use model::Answer;
-use model::number;
+use reading::number;
 ghost use mathlib.Core.Path.{_≡_};
 ghost use Prim.Native.Nat.{_<_, _^_};
 ghost use Rattle.model.specs.Answers.{signed, counted};

@@ -3,7 +3,7 @@ pub mod text;
 
 use images::load;
 use model::Answer;
-use model::number;
+use reading::number;
 ghost use Prim.Native.Nat.{_+_, _<_, _^_};
 ghost use Rattle.model.specs.Lists.{joined};
 ghost use Rattle.model.specs.Layout.{house};

@@ -1,6 +1,4 @@
 // Types that contracts and code share. What they mean is defined in specs/.
-ghost use mathlib.Core.Path.{_≡_};
-ghost use Rattle.model.specs.Answers.{number};
 
 // Why a call is refused. specs/Answers.antt has each fault's number.
 pub enum Fault {
@@ -36,22 +34,4 @@ pub enum Answer {
 pub enum WalkEnd {
     Block(u64),
     Hole,
-}
-
-// The number of a refusal.
-pub fn number(fault: Fault) -> u64
-    ensures { λ r. ⌜ r ≡ number fault ⌝ }
-{
-    match fault {
-        Fault::WordCount => 1,
-        Fault::Trailer => 2,
-        Fault::Damaged => 3,
-        Fault::FileNumber => 4,
-        Fault::Offset => 5,
-        Fault::End => 6,
-        Fault::FreeBlocks => 7,
-        Fault::PlanLength => 8,
-        Fault::PairCount => 9,
-        Fault::Address => 10,
-    }
 }
