@@ -16,6 +16,7 @@ HERE = os.path.dirname(os.path.abspath(__file__))
 ROOT = os.path.dirname(os.path.dirname(HERE))
 sys.path.insert(0, os.path.join(ROOT, 'tests', 'reference'))
 import board as B
+from boards import begun, rubbish
 
 PROGRAM = os.path.join(ROOT, 'target', 'c', 'vectors')
 SIZES = [1, 7, 8, 63, 64, 65, 128, 130, 448, 500, 512, 513, 700, 4096, 4097, 9000, 32704, 32767, 32768]
@@ -25,19 +26,10 @@ NUMBERS = [31, 32, 33, 2**32, 2**63, 2**64 - 1]
 # ---- Images
 
 
-def rubbish(rnd, count):
-    return rnd.choice([rnd.getrandbits(64), 8 * rnd.randrange(1, count), rnd.randrange(8 * count + 40)])
-
-
 def some_board(rnd):
     """A sound board with some files, whose dead words, free blocks and block 0 hold rubbish."""
     count = rnd.choice([16, 17, 24, 40, 100, 300, 1024])
-    words = [rubbish(rnd, count) for _ in range(8 * count)]
-    pool = list(range(1, count - 1))
-    rnd.shuffle(pool)
-    pointers, leaves = pool.pop(), [pool.pop() for _ in range(8)]
-    words[8 * (count - 1):] = [8 * pointers + 1, 512, count, 1, 0, 0, 0, 0]
-    words[8 * pointers:8 * pointers + 8] = [8 * leaf for leaf in leaves]
+    words, pool, leaves = begun(rnd, count)
     holes = rnd.choice([0, 0, 0.2, 0.8])
 
     def tree(height, start, size):

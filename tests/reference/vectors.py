@@ -15,6 +15,7 @@ import sys
 import tempfile
 
 import board as B
+from boards import begun, rubbish
 
 ROOT = os.path.dirname(os.path.dirname(os.path.dirname(os.path.abspath(__file__))))
 FAULTS = ['', 'WordCount', 'Trailer', 'Damaged', 'FileNumber', 'Offset', 'End', 'FreeBlocks', 'PlanLength', 'PairCount', 'Address']
@@ -162,18 +163,9 @@ class Vectors:
 # ---- Boards
 
 
-def rubbish(rnd, count):
-    return rnd.choice([rnd.getrandbits(64), 8 * rnd.randrange(1, count), rnd.randrange(8 * count + 40)])
-
-
 def made(rnd, count, file, height, size, exists):
     """A board with one file, whose live pointer over height h at byte x leads to a block where exists(h, x); rubbish elsewhere."""
-    words = [rubbish(rnd, count) for _ in range(8 * count)]
-    pool = list(range(1, count - 1))
-    rnd.shuffle(pool)
-    pointers, leaves = pool.pop(), [pool.pop() for _ in range(8)]
-    words[8 * (count - 1):] = [8 * pointers + 1, 512, count, 1, 0, 0, 0, 0]
-    words[8 * pointers:8 * pointers + 8] = [8 * leaf for leaf in leaves]
+    words, pool, leaves = begun(rnd, count)
     for f in range(32):
         words[8 * leaves[f // 4] + 2 * (f % 4) + 1] = size if f == file else 0
 
