@@ -3,6 +3,7 @@
  * which is free. First both must give the same answers. Each figure is the median of rounds in which the two alternate.
  */
 #define _POSIX_C_SOURCE 200809L /* the clock */
+#include "../tests/c/random.h"
 #include "montebeech.h"
 
 #include <stdio.h>
@@ -34,15 +35,6 @@ static void put(unsigned at, uint64_t word)
 {
     for (unsigned i = 0; i < 8; i++)
         image[8 * at + i] = (uint8_t)(word >> (8 * i));
-}
-
-static uint64_t random_word(void)
-{
-    static uint64_t x = 88172645463325252u;
-    x ^= x << 13;
-    x ^= x >> 7;
-    x ^= x << 17;
-    return x;
 }
 
 /* A full tree over the bytes from `start` to `size`, the blocks beneath a block before it. */

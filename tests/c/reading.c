@@ -4,6 +4,7 @@
  */
 #define _DEFAULT_SOURCE /* mmap and contexts */
 #include "montebeech.h"
+#include "random.h"
 
 #include <inttypes.h>
 #include <stdarg.h>
@@ -200,15 +201,6 @@ static uint64_t words[MOST_WORDS];
 static unsigned blocks;
 static unsigned pointer_block, leaves[8];
 static unsigned next_block; /* the lowest that no tree has */
-
-static uint64_t random_word(void)
-{
-    static uint64_t x = 88172645463325252u;
-    x ^= x << 13;
-    x ^= x >> 7;
-    x ^= x << 17;
-    return x;
-}
 
 /* What a dead word may hold: anything, also a pointer that would be sound. */
 static uint64_t rubbish(void)

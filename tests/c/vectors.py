@@ -16,7 +16,7 @@ HERE = os.path.dirname(os.path.abspath(__file__))
 ROOT = os.path.dirname(os.path.dirname(HERE))
 sys.path.insert(0, os.path.join(ROOT, 'tests', 'reference'))
 import board as B
-from boards import begun, rubbish
+from making import begun, rubbish
 
 PROGRAM = os.path.join(ROOT, 'target', 'c', 'vectors')
 SIZES = [1, 7, 8, 63, 64, 65, 128, 130, 448, 500, 512, 513, 700, 4096, 4097, 9000, 32704, 32767, 32768]

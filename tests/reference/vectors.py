@@ -15,7 +15,7 @@ import sys
 import tempfile
 
 import board as B
-from boards import begun, rubbish
+from making import begun, rubbish
 
 ROOT = os.path.dirname(os.path.dirname(os.path.dirname(os.path.abspath(__file__))))
 FAULTS = ['', 'WordCount', 'Trailer', 'Damaged', 'FileNumber', 'Offset', 'End', 'FreeBlocks', 'PlanLength', 'PairCount', 'Address']

@@ -31,6 +31,7 @@ fn put_trailer(board: &mut [u64], at: u64, blocks: u64) {
     put(board, at + 3, 1);
 }
 
+// The refusals as the document numbers them.
 fn number(fault: Fault) -> u64 {
     match fault {
         Fault::WordCount => 1,

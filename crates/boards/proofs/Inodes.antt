@@ -32,12 +32,6 @@ module _ (b : List ℕ) (l : ℕ) {m m′ : List ℕ} {p : ℕ} (ep : p ≡ inod
     unfolding leafSound inRange leaf
     leaf-claim f et c = Marking.same (rw (← ep, ← et, eq-eqb (p % 8) 0 e, lt-ltb 0 (p / 8) (omega arith))) (rw (← ep)) c
 
--- the leaves, each a list of one
-pub leaf-lists : (n : ℕ) (f : ℕ → ℕ) → tabulate n f ≡ joined n (λ l. f l ∷ [])
-unfolding tabulate joined
-leaf-lists zero f = refl
-leaf-lists (suc n) f = rw (leaf-lists n f)
-
 -- a live root
 root-live : (W : ℕ) (b : List ℕ) (height top r n : ℕ) → n ≢ 0 → rootSound W b height top r n ≡ (leb (r % W) height && sound W b top (r % W) (r / W) n)
 unfolding rootSound

@@ -17,7 +17,7 @@ use Rattle.trees.specs.Marks.{marked}
 abbrev pub trailerWordsSound : List ℕ → Bool
 trailerWordsSound b = every 7 (λ j. eqb (trailer house b (suc j)) (trailerWord house (blockCount house b) (suc j)))
 
--- every pointer of the board is as it must be, the inode root among them
+-- the inode pointer block lies below the trailer, and every inode pointer, size and live pointer is as it must be
 abbrev pub pointersSound : List ℕ → Bool
 pointersSound b = ltb (inodeBlock house b) (blockCount house b - 1) && (every 8 (leafSound house b) && every 32 (fileSound house b))
 

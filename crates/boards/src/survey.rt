@@ -46,7 +46,7 @@ pub fn trailer_word(blocks: u64, j: u64) -> u64
     }
 }
 
-// Whether words 1 to 7 of the trailer are.
+// Whether words 1 to 7 of the trailer are as they must be.
 pub fn trailer_words_sound(board: &[u64]) -> bool
     ensures { λ r. ⌜ r ≡ trailerWordsSound (now (board .entry)) ⌝ }
 {

@@ -75,6 +75,12 @@ module _ {A : Type 0} where
   tabulate-add m zero f = rw add-zero (sym (append-nil (tabulate m f)))
   tabulate-add m (suc n) f = rw (add-suc m n, tabulate-add m n f) (append-assoc (tabulate m f) (tabulate n (λ j. f (m + j))) (f (m + n) ∷ []))
 
+  -- a loop that makes one element a turn makes a list of one a turn
+  pub tabulate-joined : (n : ℕ) (f : ℕ → A) → tabulate n f ≡ joined n (λ j. f j ∷ [])
+  unfolding tabulate joined
+  tabulate-joined zero f = refl
+  tabulate-joined (suc n) f = rw (tabulate-joined n f)
+
   pub joined-none : (m : ℕ) (f : ℕ → List A) → ((j : ℕ) → j < m → f j ≡ []) → joined m f ≡ []
   unfolding joined
   joined-none zero f e = refl

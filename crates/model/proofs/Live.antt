@@ -4,11 +4,11 @@ use mathlib.Core.Bool.{Bool, true, _&&_}
 use mathlib.Core.List.{List, [], _∷_, _++_}
 use Prim.Native.Nat.{ℕ, zero, suc, _-_, _*_, _/_, _%_}
 use lib.Dec.{leb, ltb, eqb}
-use Rattle.model.specs.Lists.{tabulate, joined, every, all}
+use Rattle.model.specs.Lists.{joined, every, all}
 use Rattle.model.specs.Layout.{Layout, files}
 use Rattle.model.specs.Tree.{span, aligned, cell, blocks, sound}
 use Rattle.model.specs.Board.{rootBlocks, rootSound, greatest, blockCount, trailer, inodeBlock, inodePointer, leaf, root, size, fileBlocks, liveBlocks, inRange, trailerSound, leafSound, fileSound, trailerWord}
-use Rattle.model.proofs.Cases.{true-left, true-right}
+use Rattle.model.proofs.Cases.{true-left, true-right, tabulate-joined}
 use Rattle.model.proofs.Trees.{blocks-dead, childSound, childBlocks}
 
 -- each of the blocks lies below top
@@ -26,12 +26,6 @@ unfolding every joined all
 below-joined top p f each zero e = refl
 below-joined top p f each (suc n) e =
     below-append top (joined n f) (f n) (below-joined top p f each n (true-left (every n p) (p n) e)) (each n (true-right (every n p) (p n) e))
-
-below-tabulate : (top : ℕ) (p : ℕ → Bool) (f : ℕ → ℕ) → ((j : ℕ) → p j ≡ true → ltb (f j) top ≡ true) → (n : ℕ) → every n p ≡ true → below top (tabulate n f) ≡ true
-unfolding every tabulate all
-below-tabulate top p f each zero e = refl
-below-tabulate top p f each (suc n) e =
-    below-append top (tabulate n f) (f n ∷ []) (below-tabulate top p f each n (true-left (every n p) (p n) e)) (rw (each n (true-right (every n p) (p n) e)))
 
 pub sound-below : (W : ℕ) (b : List ℕ) (top h k n : ℕ) → sound W b top h k n ≡ true → below top (blocks W b h k n) ≡ true
 unfolding sound blocks all
@@ -60,9 +54,9 @@ module _ (g : Layout) (b : List ℕ) where
   unfolding inRange
   range-below k = true-right (ltb 0 k) (ltb k (blockCount g b - 1))
 
-  leaf-below : (l : ℕ) → leafSound g b l ≡ true → ltb (leaf g b l) (blockCount g b - 1) ≡ true
-  unfolding leafSound
-  leaf-below l e = range-below (leaf g b l) (true-right (eqb (inodePointer g b l % g .words) 0) (inRange g b (leaf g b l)) e)
+  leaf-below : (l : ℕ) → leafSound g b l ≡ true → below (blockCount g b - 1) (leaf g b l ∷ []) ≡ true
+  unfolding leafSound all
+  leaf-below l e = rw (range-below (leaf g b l) (true-right (eqb (inodePointer g b l % g .words) 0) (inRange g b (leaf g b l)) e))
 
   file-below : (f : ℕ) → fileSound g b f ≡ true → below (blockCount g b - 1) (fileBlocks g b f) ≡ true
   unfolding fileSound fileBlocks
@@ -84,7 +78,7 @@ module _ (g : Layout) (b : List ℕ) where
       let top : ℕ = blockCount g b - 1 in
       let l : Bool = every (g .leaves) (leafSound g b) in
       let f : Bool = every (files g) (fileSound g b) in
-      rw (inode-below t)
-      (below-append top (tabulate (g .leaves) (leaf g b)) (joined (files g) (fileBlocks g b))
-      (below-tabulate top (leafSound g b) (leaf g b) leaf-below (g .leaves) (true-left l f e))
+      rw (inode-below t, tabulate-joined (g .leaves) (leaf g b))
+      (below-append top (joined (g .leaves) (λ l. leaf g b l ∷ [])) (joined (files g) (fileBlocks g b))
+      (below-joined top (leafSound g b) (λ l. leaf g b l ∷ []) leaf-below (g .leaves) (true-left l f e))
       (below-joined top (fileSound g b) (fileBlocks g b) file-below (files g) (true-right l f e)))

@@ -1,5 +1,5 @@
 -- A tree (h, k, n) one level at a time: under a pointer that isn't live and under a null one there is nothing; at a live block, the block and what
--- lies beneath it. These laws are the only ones that look at the clauses of walk, blocks, sound and dataBlocks.
+-- lies beneath it. Code that tests n, k and h in turn is proved from these laws.
 use mathlib.Core.Path.{_≡_, refl, sym}
 use mathlib.Core.Logic.{_≢_}
 use mathlib.Core.Bool.{Bool, true, _&&_, and-true}

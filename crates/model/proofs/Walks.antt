@@ -2,8 +2,8 @@
 use mathlib.Core.Path.{_≡_, refl, sym, _∙_}
 use mathlib.Core.Bool.{Bool, true, false}
 use mathlib.Core.List.{List, _++_}
-use Prim.Native.Nat.{ℕ, zero, suc, _+_, _-_, _*_, _/_, _%_, _≤_, _<_}
-use native.Mathlib.Nat.{div-div-eq-div-mul, mul-comm, mul-assoc, mod-lt, mul-pos, div-lt-iff-lt-mul}
+use Prim.Native.Nat.{ℕ, zero, suc, _+_, _-_, _*_, _/_, _%_, _^_, _≤_, _<_}
+use native.Mathlib.Nat.{div-div-eq-div-mul, mul-comm, mul-assoc, pow-succ', one-le-pow, mod-lt, div-lt-iff-lt-mul}
 use native.Mathlib.Omega.{arith}
 use lib.Arith.{mod-mul, digits-div}
 use lib.ListN.{take, drop}
@@ -14,47 +14,39 @@ use Rattle.model.specs.Lists.{tabulate}
 use Rattle.model.specs.Tree.{span, link, walk}
 use Rattle.model.specs.Board.{rootWalk}
 use Rattle.model.proofs.Cases.{tabulate-add}
+use Rattle.model.proofs.Spans.{span-power}
 use Rattle.model.proofs.Perform.{length-tabulate}
 
 module _ (W : ℕ) (pos : 0 < W) where
-  -- the data blocks that a tree of height h spans
-  unfoldable spanned : ℕ → ℕ
-  spanned zero = 1
-  spanned (suc h) = W * spanned h
-
-  spanned-pos : (h : ℕ) → 0 < spanned h
-  unfolding spanned
-  spanned-pos zero = omega arith
-  spanned-pos (suc h) = mul-pos pos (spanned-pos h)
+  -- a tree of height h spans W ^ h data blocks
+  spanned-pos : (h : ℕ) → 0 < W ^ h
+  spanned-pos h = one-le-pow h W pos
 
   block-pos : 0 < 8 * W
   block-pos = omega arith
 
-  span-blocks : (h : ℕ) → span W h ≡ spanned h * (8 * W)
-  unfolding span spanned
-  span-blocks zero = omega arith
-  span-blocks (suc h) = rw (span-blocks h) (sym (mul-assoc W (spanned h) (8 * W)))
+  span-blocks : (h : ℕ) → span W h ≡ W ^ h * (8 * W)
+  span-blocks h = rw (span-power W h, pow-succ' W h, ← mul-assoc 8 W (W ^ h)) (mul-comm (8 * W) (W ^ h))
 
   -- two bytes of one block
   module _ (i i′ : ℕ) (e : i / (8 * W) ≡ i′ / (8 * W)) where
     -- are under one pointer, and stay in one block there
     div-same : (h : ℕ) → i / span W h ≡ i′ / span W h
     div-same h =
-        rw (span-blocks h, mul-comm (spanned h) (8 * W), ← div-div-eq-div-mul i (8 * W) (spanned h), ← div-div-eq-div-mul i′ (8 * W) (spanned h), e)
+        rw (span-blocks h, mul-comm (W ^ h) (8 * W), ← div-div-eq-div-mul i (8 * W) (W ^ h), ← div-div-eq-div-mul i′ (8 * W) (W ^ h), e)
 
     mod-same : (h : ℕ) → i % span W h / (8 * W) ≡ i′ % span W h / (8 * W)
     mod-same h = rw (
       span-blocks h,
       mod-mul i (spanned-pos h) block-pos,
       mod-mul i′ (spanned-pos h) block-pos,
-      digits-div (i / (8 * W) % spanned h) (mod-lt i block-pos),
-      digits-div (i′ / (8 * W) % spanned h) (mod-lt i′ block-pos),
+      digits-div (i / (8 * W) % W ^ h) (mod-lt i block-pos),
+      digits-div (i′ / (8 * W) % W ^ h) (mod-lt i′ block-pos),
       e,
     )
 
   less-same : (i i′ h : ℕ) → i / (8 * W) ≡ i′ / (8 * W) → i < span W h → i′ < span W h
   less-same i i′ h e l =
-      let c = block-pos in
       rw (span-blocks h) (div-lt-iff-lt-mul block-pos .0 (rw (← e) (div-lt-iff-lt-mul block-pos .1 (rw (span-blocks h) at l))))
 
   within-same : (i i′ h : ℕ) → i / (8 * W) ≡ i′ / (8 * W) → ltb i (span W h) ≡ ltb i′ (span W h)

@@ -70,6 +70,7 @@ pub fn copy(board: &[u64], end: WalkEnd, from: u64, n: usize, out: &mut [u8])
     copy_bytes(board, k, from, n, out);
 }
 
+// The smaller of two numbers.
 fn least(a: usize, b: usize) -> usize
     ensures { λ r. ⌜ r ≡ min a b ⌝ }
 {

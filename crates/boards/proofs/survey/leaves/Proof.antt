@@ -7,8 +7,8 @@ use lib.ListN.{length}
 use borrow.Author.Tests.{not-true, not-false}
 use Rattle.model.specs.Layout.{house}
 use Rattle.model.specs.Board.{leaf, leafSound}
+use Rattle.model.proofs.Cases.{tabulate-joined}
 use Rattle.trees.proofs.Marking
-use Rattle.boards.proofs.Inodes.{leaf-lists}
 use Rattle.boards.proofs.survey.leaves.Statement.{statement}
 use Rattle.boards.proofs.survey.leaves.Tie as tie
 
@@ -23,7 +23,7 @@ loop-holds c = (omega arith, refl, Marking.start)
 
 returns : tie.Need-returns Inv-loop μ-loop
 returns c = let k = c .before .before .before in let l = k .before .before .before in
-    Marking.same refl (leaf-lists 8 (leaf house (l .before .before .before .args .board .now)))
+    Marking.same refl (tabulate-joined 8 (leaf house (l .before .before .before .args .board .now)))
     (Marking.stop (l .loop .inv .2) (k .leaf .ensures) (k .before .before .loop-test .taken) (not-true _ (c .if1 .taken)))
 
 loop-again : tie.Need-loop-again Inv-loop μ-loop
@@ -31,7 +31,7 @@ loop-again c = let k = c .before .before .before in let l = k .before .before .b
     (omega arith, k .leaf .kept .1 .0 ∙ l .loop .inv .1, Marking.step (l .loop .inv .2) (k .leaf .ensures) (not-false _ (c .if1 .left)))
 
 returns-2 : tie.Need-returns-2 Inv-loop μ-loop
-returns-2 c = Marking.same refl (leaf-lists 8 (leaf house (c .before .before .before .before .args .board .now))) (Marking.all (c .before .loop .inv .2) (omega arith))
+returns-2 c = Marking.same refl (tabulate-joined 8 (leaf house (c .before .before .before .before .args .board .now))) (Marking.all (c .before .loop .inv .2) (omega arith))
 
 pub leaves-spec : {M : Type 1} → statement M
 leaves-spec =
