@@ -20,10 +20,6 @@ length-digits (suc most) n = by (length-digits most (n / 10)) (ltb n 10)
     by h true = omega arith
     by h false = omega (arith, length-append (digits most (n / 10)) ((48 + n % 10) ∷ []))
 
-pub length-decimal : (n : ℕ) → length (decimal n) ≤ 20
-unfolding decimal
-length-decimal n = length-digits 19 n
-
 digits-none : (most n : ℕ) → most ≡ 0 → digits most n ≡ (48 + n % 10) ∷ []
 unfolding digits
 digits-none most n e = rw e

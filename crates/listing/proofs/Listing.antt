@@ -5,7 +5,8 @@ use mathlib.Core.Bool.{true}
 use mathlib.Core.List.{List, [], _++_}
 use Prim.Native.Nat.{ℕ, zero, suc, _+_, _*_, _/_, _%_, _≤_}
 use native.Mathlib.Omega.{arith}
-use lib.ListN.{length, take}
+use lib.ListN.{length, take, drop}
+use lib.Seq.{sets-eq, take-at}
 use Rattle.model.specs.declared.Fault.{Fault}
 use Rattle.model.specs.declared.Answer.{Answer}
 use Rattle.model.specs.declared.Answer.the-variants.{Done, Refused}
@@ -88,3 +89,10 @@ listed {image} {words} {n} c w =
       most = omega (arith, w .next, w .short);
       bytes = rw (← e) (w .bytes);
     }
+
+-- the first r bytes of a buffer with room for any listing, which the program prints, are the listing
+pub printed : {image out : List ℕ} {r : ℕ} {out′ : List ℕ} → Listed image out r out′ → 4096 ≤ length out → take r out′ ≡ listing house image
+printed {image} {out} c l =
+    let t : List ℕ = listing house image in
+    let fits : 0 + length t ≤ length out = omega (arith, c .count, c .most) in
+    rw (c .bytes, sets-eq t out 0 fits, c .count) (take-at t (drop (0 + length t) out) (length t) refl)

@@ -5,8 +5,8 @@ use Prim.Native.Nat.{ℕ, suc, _+_, _≤_, _<_}
 use native.Mathlib.Nat.{add-zero}
 use native.Mathlib.Numerals.{add-one}
 use native.Mathlib.Omega.{arith}
-use lib.ListN.{length, take, drop, getD, set, length-append}
-use lib.Seq.{sets, length-sets, sets-eq, set-out, take-suc, take-all, take-at}
+use lib.ListN.{length, take, getD, set, length-append}
+use lib.Seq.{sets, length-sets, set-out, take-suc, take-all}
 use Rattle.model.specs.Lists.{joined}
 use Rattle.model.specs.Lister.{field, line}
 use Rattle.listing.specs.Wrote.{Wrote, entry}
@@ -73,10 +73,3 @@ module _ {p : ℕ} {out : List ℕ} where
       Wrote 1 (10 ∷ []) q′ mid′ r out′ → Wrote (m + k + 1) (line w n t) p out r out′
   unfolding line
   lined w n a b c = both (both a b) c
-
--- the text is the front of a buffer that has room for it
-pub front : {m r : ℕ} {t out out′ : List ℕ} → Wrote m t 0 out r out′ → r ≤ length out → take r out′ ≡ t
-front {m} {r} {t} {out} {out′} a h =
-    let e : r ≡ length t = omega (arith, a .next) in
-    let fits : 0 + length t ≤ length out = omega arith in
-    rw (a .bytes, sets-eq t out 0 fits, e) (take-at t (drop (0 + length t) out) (length t) refl)
