@@ -10,10 +10,12 @@ use Rattle.model.specs.declared.Answer.the-variants.{Refused}
 use Rattle.model.specs.declared.Fault.the-variants.{Trailer}
 use Rattle.model.specs.Lists.{all, distinct}
 use Rattle.model.specs.Layout.{Layout, Fits, files}
-use Rattle.model.specs.Board.{trailer, contents, inRange, accepted, wordCountSound}
+use Rattle.model.specs.Board.{trailer, walkTo, contents, liveBlocks, free, inRange, accepted, wordCountSound}
 use Rattle.model.specs.Store.{Store, performed, stores, epochs, fenced}
 use Rattle.model.specs.Calls.{checkAnswer, freeCountAnswer, sizeAnswer, readAnswer, readBuffer, Planned, format, performAnswer}
-use Rattle.model.specs.Cut.{Change, fileOf, called, planOf, after, Cut, Names, standing, lastArrived}
+use Rattle.model.specs.Hidden.{hidden}
+use Rattle.model.specs.Cut.{Change, fileOf, called, planOf, after, Cut, chosen, Names, standing, lastArrived}
+use Rattle.model.specs.Safe.{left, SafePlan, decided}
 
 -- ---- Plans
 
@@ -51,6 +53,22 @@ pub record SameCalls (g : Layout) (b b′ : List ℕ) : Type 0 where
 abbrev pub BootRule : Type 0
 BootRule = (g : Layout) → Fits g → (b b′ : List ℕ) → length b ≡ length b′ → drop (g .words) b ≡ drop (g .words) b′ → SameCalls g b b′
 
+-- ---- Hidden stores
+
+-- b′ shows what b shows
+pub record Shows (g : Layout) (b b′ : List ℕ) : Type 0 where
+  pub boards : accepted g b′ ≡ accepted g b
+  pub checks : checkAnswer g b′ ≡ checkAnswer g b
+  pub lives : liveBlocks g b′ ≡ liveBlocks g b
+  pub frees : free g b′ ≡ free g b
+  pub walks : (f : ℕ) → f < files g → (i : ℕ) → walkTo g b′ f i ≡ walkTo g b f i
+  pub reads : (f : ℕ) → f < files g → contents g b′ f ≡ contents g b f
+
+-- so does a board with any of some stores performed, each *hidden* on b, none and all included
+abbrev pub HiddenRule : Type 0
+HiddenRule = (g : Layout) → Fits g → (b : List ℕ) → T (accepted g b) → (ss : List Store) → T (all (hidden g b) ss) → (arrived : ℕ → Bool)
+    → Shows g b (performed b (chosen arrived ss))
+
 -- ---- The power-cut rule
 
 -- b′ stands where b was lent and file f is to read `wanted`. *Before is what a file reads as on the lent board*
@@ -64,6 +82,11 @@ pub record CutSafe (g : Layout) (b b′ : List ℕ) (f : ℕ) (wanted : List ℕ
   -- where before and after differ, there is a last planned store, and the file reads as after exactly when it arrived
   pub planned : contents g b f ≢ wanted → 0 < length ss
   pub decides : contents g b f ≢ wanted → (contents g b′ f ≡ wanted) ↔ T arrived
+
+-- a plan that is safe obeys the rule, with the store of epoch d in the place of the last one
+abbrev pub SafeRule : Type 0
+SafeRule = (g : Layout) → Fits g → (b : List ℕ) → T (accepted g b) → (f : ℕ) → f < files g → (ss : List Store) (d : ℕ) → SafePlan g b f (epochs ss) d → (x : Cut)
+    → Names ss x → CutSafe g b (standing ss x b) f (contents g (left b (epochs ss) (length (epochs ss))) f) ss (decided d x)
 
 -- *One claim covers every accepted board, both calls, all arguments, every way of planning and every cut*
 abbrev pub PowerCutRule : Type 0

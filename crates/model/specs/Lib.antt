@@ -17,5 +17,6 @@ pub mod Calls
 pub mod Cabinet
 pub mod Lister
 pub mod Cut
+pub mod Safe
 pub mod Claims
 pub mod Examples
