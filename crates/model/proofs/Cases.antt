@@ -1,5 +1,5 @@
 -- Cases on numbers and tests, and laws of the loops of specs/Lists.antt.
-use mathlib.Core.Path.{_≡_, refl, sym, ap, ap₂}
+use mathlib.Core.Path.{_≡_, refl, sym, ap, ap₂, subst, _∙_}
 use mathlib.Core.Logic.{_≢_, _⊎_, inl, inr}
 use mathlib.Core.Bool.{Bool, true, false, _&&_, and-false, false≢true}
 use mathlib.Core.List.{List, [], _∷_, _++_, append-assoc, append-nil}
@@ -7,9 +7,10 @@ use Prim.Native.Nat.{ℕ, zero, suc, _+_, _≤_, _<_}
 use native.Mathlib.Nat.{add-zero, add-suc}
 use native.Mathlib.Numerals.{add-one}
 use native.Mathlib.Omega.{arith}
+use lib.ListN.{length, length-append}
 use lib.Dec.{T, leb, eqb}
 use borrow.Author.Tests.{leb-true, leb-false, eqb-true, eqb-false}
-use Rattle.model.specs.Lists.{tabulate, joined, every}
+use Rattle.model.specs.Lists.{tabulate, joined, every, sum}
 
 pub split : (a b : ℕ) → (a ≤ b) ⊎ (b < a)
 split a b = go (leb a b) refl
@@ -51,6 +52,19 @@ unfolding every
 every-all zero p f = tt
 every-all (suc m) p f = and-both (every m p) (p m) (every-all m p (λ j h. f j (omega arith))) (f m (omega arith))
 
+pub every-of : (m : ℕ) (p : ℕ → Bool) → T (every m p) → (j : ℕ) → j < m → T (p j)
+unfolding every
+every-of zero p h j l = absurd (omega arith)
+every-of (suc m) p h j l = elim (decide m j) [
+  | inl e ↦ subst (λ (x : ℕ). T (p x)) e (and-right (every m p) (p m) h)
+  | inr n ↦ every-of m p (and-left (every m p) (p m) h) j (omega arith)
+]
+
+pub every-cong : (m : ℕ) (p q : ℕ → Bool) → ((j : ℕ) → j < m → p j ≡ q j) → every m p ≡ every m q
+unfolding every
+every-cong zero p q e = refl
+every-cong (suc m) p q e = ap₂ _&&_ (every-cong m p q (λ j h. e j (omega arith))) (e m (omega arith))
+
 -- what a loop over the numbers below n finds
 pub every-more : (j : ℕ) (p : ℕ → Bool) → every j p ≡ true → p j ≡ true → every (j + 1) p ≡ true
 unfolding every
@@ -85,3 +99,13 @@ module _ {A : Type 0} where
   unfolding joined
   joined-none zero f e = refl
   joined-none (suc m) f e = ap₂ _++_ (joined-none m f (λ j h. e j (omega arith))) (e m (omega arith))
+
+  pub joined-cong : (m : ℕ) (f g : ℕ → List A) → ((j : ℕ) → j < m → f j ≡ g j) → joined m f ≡ joined m g
+  unfolding joined
+  joined-cong zero f g e = refl
+  joined-cong (suc m) f g e = ap₂ _++_ (joined-cong m f g (λ j h. e j (omega arith))) (e m (omega arith))
+
+  pub length-joined : (m : ℕ) (f : ℕ → List A) → length (joined m f) ≡ sum m (λ j. length (f j))
+  unfolding joined sum
+  length-joined zero f = refl
+  length-joined (suc m) f = length-append (joined m f) (f m) ∙ ap (λ (x : ℕ). x + length (f m)) (length-joined m f)

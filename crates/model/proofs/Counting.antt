@@ -1,15 +1,15 @@
 -- Counting how often a number occurs. 'No block is reached twice' is that none occurs more than once; counts add up over lists and loops.
-use mathlib.Core.Path.{_≡_, refl, sym}
+use mathlib.Core.Path.{_≡_, refl, sym, subst}
 use mathlib.Core.Logic.{_≢_, inl, inr}
 use mathlib.Core.Bool.{true, false, not}
 use mathlib.Core.List.{List, [], _∷_, _++_}
 use Prim.Native.Nat.{ℕ, zero, suc, _+_, _≤_, _<_}
 use native.Mathlib.Omega.{arith}
 use native.Mathlib.Nat.{zero-add}
-use lib.Dec.{T, eqb}
+use lib.Dec.{T, eqb, T-not}
 use borrow.Author.Tests.{eq-eqb, ne-eqb}
-use Rattle.model.specs.Lists.{tabulate, sum, member, distinct}
-use Rattle.model.proofs.Cases.{decide, and-both}
+use Rattle.model.specs.Lists.{tabulate, joined, sum, member, distinct}
+use Rattle.model.proofs.Cases.{split, decide, and-left, and-right, and-both}
 
 -- 1 where the two are equal, else 0
 unfoldable pub one : ℕ → ℕ → ℕ
@@ -33,6 +33,11 @@ unfolding occ
 occ-append q [] r = sym (zero-add (occ q r))
 occ-append q (x ∷ xs) r = omega (arith, occ-append q xs r)
 
+pub occ-joined : (q m : ℕ) (f : ℕ → List ℕ) → occ q (joined m f) ≡ sum m (λ j. occ q (f j))
+unfolding joined sum occ
+occ-joined q zero f = refl
+occ-joined q (suc m) f = omega (arith, occ-joined q m f, occ-append q (joined m f) (f m))
+
 pub occ-tabulate : (q n : ℕ) (f : ℕ → ℕ) → occ q (tabulate n f) ≡ sum n (λ j. one q (f j))
 unfolding tabulate sum occ
 occ-tabulate q zero f = refl
@@ -45,6 +50,27 @@ member-none q (x ∷ xs) h = elim (decide q x) [
   | inl e ↦ absurd (omega (arith, one-same q, rw (← e) at h))
   | inr n ↦ rw (ne-eqb q x n) (member-none q xs (omega (arith, one-other q x n)))
 ]
+
+pub member-some : (q : ℕ) (l : List ℕ) → 0 < occ q l → member q l ≡ true
+unfolding member occ
+member-some q [] h = absurd (omega arith)
+member-some q (x ∷ xs) h = elim (decide q x) [
+  | inl e ↦ rw (eq-eqb q x e)
+  | inr n ↦ rw (ne-eqb q x n) (member-some q xs (omega (arith, one-other q x n)))
+]
+
+pub distinct-occ : (l : List ℕ) → T (distinct l) → (q : ℕ) → occ q l ≤ 1
+unfolding distinct occ
+distinct-occ [] h q = omega arith
+distinct-occ (x ∷ xs) h q =
+    let rest : occ q xs ≤ 1 = distinct-occ xs (and-right (not (member x xs)) (distinct xs) h) q in
+    elim (decide q x) [
+      | inl e ↦ elim (split (occ q xs) 0) [
+        | inl z ↦ rw e (omega (arith, one-same x, rw e at z))
+        | inr s ↦ absurd (T-not (member x xs) (and-left (not (member x xs)) (distinct xs) h) (subst T (sym (member-some x xs (rw e at s))) tt))
+      ]
+      | inr n ↦ omega (arith, one-other q x n)
+    ]
 
 pub occ-distinct : (l : List ℕ) → ((q : ℕ) → occ q l ≤ 1) → T (distinct l)
 unfolding distinct occ

@@ -2,9 +2,15 @@
 -- blocks lie (Live), walks block by block (Walks), lists of faults (Refusals), stores (Perform), format (Formatted),
 -- and the marked examples by computation (Computing, Marked).
 pub mod Cases
+pub mod Sums
 pub mod Counting
 pub mod Spans
 pub mod Trees
+pub mod Bytes
+pub mod Agree
+pub mod Splice
+pub mod Changed
+pub mod Built
 pub mod Live
 pub mod Walks
 pub mod Refusals

@@ -1,0 +1,207 @@
+-- A fresh tree: what its pages read as once a board holds them.
+use mathlib.Core.Path.{_≡_, refl, sym, ap, _∙_, subst}
+use mathlib.Core.Logic.{_≢_, inl, inr}
+use mathlib.Core.List.{List, [], _∷_, _++_}
+use Prim.Native.Nat.{ℕ, zero, suc, _+_, _-_, _*_, _/_, _%_, _≤_, _<_}
+use native.Mathlib.Omega.{arith}
+use native.Mathlib.Nat.{zero-add, add-zero, mul-div-cancel-left, mul-mod-right, zero-mod}
+use lib.ListN.{length, length-append, set}
+use Rattle.model.specs.Lists.{tabulate, joined, sum}
+use Rattle.model.specs.Words.{byteOf}
+use Rattle.model.specs.Tree.{seen, span, aligned, cell, link}
+use Rattle.model.specs.Store.{Store, store, performed}
+use Rattle.model.specs.Fresh.{Page, splice, part, partLength, need, needBefore, dataPage, stored, freshPointer, pointerPage, build}
+use Rattle.model.proofs.Cases.{split, decide, length-joined}
+use Rattle.model.proofs.Sums.{sum-cong, sum-mono, sum-split}
+use Rattle.model.proofs.Counting.{one, one-same, one-other}
+use Rattle.model.proofs.Bytes.{byteOf-lt, byteOf-wordOf}
+use Rattle.model.proofs.Perform.{All, all-append, all-tabulate, performed-append, performed-tabulate, length-performed, address-block, pageStore, stored-blocks, stored-cell}
+use Rattle.model.proofs.Agree.{byteAt, agree, seen-live, seen-dead, seen-lt, link-cell, agree-child, beneath, occ-leaf, occ-beneath, sound-leaf, aligned-zero, aligned-full, cell-away}
+use Rattle.model.proofs.Splice.{Small, Cover, length-part, small-part, cover-child, splice-small, choose-zero, choose-pos}
+use Rattle.model.proofs.Changed.{Changed, weaken, kept, node}
+
+-- the board b holds pages from the fresh block number c on
+unfoldable pub held : ℕ → (ℕ → ℕ) → List ℕ → List Page → ℕ → Type 0
+held W fresh b [] c = Unit
+held W fresh b (p ∷ ps) c = ((j : ℕ) → j < W → cell W b (fresh c) j ≡ p j) × held W fresh b ps (suc c)
+
+module _ (fresh : ℕ → ℕ) where
+  -- how often q is among m fresh blocks from c on
+  unfoldable pub used : ℕ → ℕ → ℕ → ℕ
+  used q c m = sum m (λ i. one q (fresh (c + i)))
+
+  pub used-add : (q c m n : ℕ) → used q c (m + n) ≡ used q c m + used q (c + m) n
+  unfolding used
+  used-add q c m n = sum-split m n (λ i. one q (fresh (c + i))) ∙ ap (λ (x : ℕ). sum m (λ i. one q (fresh (c + i))) + x) (sum-cong n _ _ (λ j l. ap (λ (x : ℕ). one q (fresh x)) (omega arith)))
+
+  pub used-one : (q c : ℕ) → used q c 1 ≡ one q (fresh c)
+  unfolding used sum
+  used-one q c = zero-add _ ∙ ap (λ (x : ℕ). one q (fresh x)) (add-zero c)
+
+module _ (W : ℕ) (pos : 0 < W) (b : List ℕ) (fresh : ℕ → ℕ) where
+  -- the pages of child j
+  abbrev pub kid : ℕ → ℕ → ℕ → ℕ → List ℕ → ℕ → ℕ → List Page
+  kid h k n o new c j = build W fresh b h (link W b k j / W) (n - j * span W h) (o - j * span W h) (part (span W h) j o new) (c + needBefore W h o (length new) j)
+
+  pub length-build : (h k n o : ℕ) (new : List ℕ) (c : ℕ) → length (build W fresh b h k n o new c) ≡ need W h o (length new)
+  unfolding build need
+  length-build zero k n o [] c = refl
+  length-build zero k n o (x ∷ new) c = refl
+  length-build (suc h) k n o [] c = refl
+  length-build (suc h) k n o (x ∷ new) c =
+      let f = kid h k n o (x ∷ new) c in
+      omega (
+        arith,
+        length-append (joined W f) (pointerPage W fresh b h k n o (suc (length new)) c ∷ []),
+        length-joined W f,
+        sum-cong W (λ j. length (f j)) (λ j. need W h (o - j * span W h) (partLength (span W h) j o (suc (length new))))
+            (λ j l. length-build h (link W b k j / W) (n - j * span W h) (o - j * span W h) (part (span W h) j o (x ∷ new)) (c + needBefore W h o (suc (length new)) j)
+            ∙ ap (need W h (o - j * span W h)) (length-part (span W h) j o (x ∷ new))),
+      )
+
+  pub kid-lengths : (h k n o : ℕ) (new : List ℕ) (c m : ℕ) → sum m (λ j. length (kid h k n o new c j)) ≡ needBefore W h o (length new) m
+  unfolding needBefore
+  kid-lengths h k n o new c m = sum-cong m _ _ (λ j l. length-build h (link W b k j / W) (n - j * span W h) (o - j * span W h) (part (span W h) j o new) (c + sum j (λ i. need W h (o - i * span W h) (partLength (span W h) i o (length new))))
+      ∙ ap (need W h (o - j * span W h)) (length-part (span W h) j o new))
+
+  pub need-pos : (h o l : ℕ) → 0 < l → 0 < need W h o l
+  unfolding need
+  need-pos zero o zero p = absurd (omega arith)
+  need-pos zero o (suc l) p = omega arith
+  need-pos (suc h) o zero p = absurd (omega arith)
+  need-pos (suc h) o (suc l) p = omega arith
+
+  pub need-suc : (h o l : ℕ) → 0 < l → need W (suc h) o l ≡ suc (needBefore W h o l W)
+  unfolding need needBefore
+  need-suc h o zero p = absurd (omega arith)
+  need-suc h o (suc l) p = refl
+
+  pub before-suc : (h o l j : ℕ) → needBefore W h o l (suc j) ≡ needBefore W h o l j + need W h (o - j * span W h) (partLength (span W h) j o l)
+  unfolding needBefore sum
+  before-suc h o l j = refl
+
+  pub before-le : (h o l j : ℕ) → j < W → needBefore W h o l (suc j) ≤ needBefore W h o l W
+  unfolding needBefore
+  before-le h o l j p = sum-mono (λ i. need W h (o - i * span W h) (partLength (span W h) i o l)) (suc j) W p
+
+  pub room : (h o : ℕ) (new : List ℕ) (c lim : ℕ) → 0 < length new → c + need W (suc h) o (length new) ≤ lim → (j : ℕ) → j < W
+      → c + needBefore W h o (length new) j + need W h (o - j * span W h) (length (part (span W h) j o new)) ≤ lim
+  room h o new c lim p q j l = rw (length-part (span W h) j o new)
+      (omega (arith, need-suc h o (length new) p, before-suc h o (length new) j, before-le h o (length new) j l))
+
+  pub used-before : (h o l q c m : ℕ) → sum m (λ j. used fresh q (c + needBefore W h o l j) (need W h (o - j * span W h) (partLength (span W h) j o l))) ≡ used fresh q c (needBefore W h o l m)
+  unfolding needBefore sum used
+  used-before h o l q c zero = refl
+  used-before h o l q c (suc m) = omega (arith, used-before h o l q c m, used-add fresh q c (needBefore W h o l m) (need W h (o - m * span W h) (partLength (span W h) m o l)))
+
+  -- a board that holds the pages from c on
+  module _ (b′ : List ℕ) where
+    pub held-left : (ps qs : List Page) (c : ℕ) → held W fresh b′ (ps ++ qs) c → held W fresh b′ ps c
+    unfolding held
+    held-left [] qs c h = tt
+    held-left (p ∷ ps) qs c h = (h .0, held-left ps qs (suc c) (h .1))
+
+    pub held-right : (ps qs : List Page) (c : ℕ) → held W fresh b′ (ps ++ qs) c → held W fresh b′ qs (c + length ps)
+    unfolding held
+    held-right [] qs c h = rw add-zero h
+    held-right (p ∷ ps) qs c h = subst (held W fresh b′ qs) (omega arith) (held-right ps qs (suc c) (h .1))
+
+    pub held-joined : (m : ℕ) (f : ℕ → List Page) (c : ℕ) → held W fresh b′ (joined m f) c → (j : ℕ) → j < m → held W fresh b′ (f j) (c + sum j (λ i. length (f i)))
+    unfolding joined
+    held-joined zero f c h j l = absurd (omega arith)
+    held-joined (suc m) f c h j l = elim (decide m j) [
+      | inl e ↦ subst (λ (x : ℕ). held W fresh b′ (f x) (c + sum x (λ i. length (f i)))) e (rw (← (length-joined m f)) (held-right (joined m f) (f m) c h))
+      | inr n ↦ held-joined m f c (held-left (joined m f) (f m) c h) j (omega arith)
+    ]
+
+    -- what a held write has at its root and below it
+    pub held-root : (h k n o : ℕ) (new : List ℕ) (c : ℕ) → 0 < length new → held W fresh b′ (build W fresh b (suc h) k n o new c) c
+        → (j : ℕ) → j < W → cell W b′ (fresh (c + need W (suc h) o (length new) - 1)) j ≡ pointerPage W fresh b h k n o (length new) c j
+    unfolding build held
+    held-root h k n o [] c p g j l = absurd (omega arith)
+    held-root h k n o (x ∷ new) c p g j l =
+        let f = kid h k n o (x ∷ new) c in
+        let at : c + length (joined W f) ≡ c + need W (suc h) o (suc (length new)) - 1 = omega (arith, length-joined W f, kid-lengths h k n o (x ∷ new) c W, need-suc h o (suc (length new)) p) in
+        subst (λ (y : ℕ). cell W b′ (fresh y) j ≡ pointerPage W fresh b h k n o (suc (length new)) c j) at
+        (held-right (joined W f) (pointerPage W fresh b h k n o (suc (length new)) c ∷ []) c g .0 j l)
+
+    pub held-child : (h k n o : ℕ) (new : List ℕ) (c : ℕ) → 0 < length new → held W fresh b′ (build W fresh b (suc h) k n o new c) c → (j : ℕ) → j < W
+        → held W fresh b′ (build W fresh b h (link W b k j / W) (n - j * span W h) (o - j * span W h) (part (span W h) j o new) (c + needBefore W h o (length new) j)) (c + needBefore W h o (length new) j)
+    unfolding build
+    held-child h k n o [] c p g j l = absurd (omega arith)
+    held-child h k n o (x ∷ new) c p g j l =
+        let f = kid h k n o (x ∷ new) c in
+        subst (λ (y : ℕ). held W fresh b′ (f j) (c + y)) (kid-lengths h k n o (x ∷ new) c j)
+        (held-joined W f c (held-left (joined W f) (pointerPage W fresh b h k n o (suc (length new)) c ∷ []) c g) j l)
+
+    -- the bytes of the fresh tree, of which m lie below the new size
+    module _ (lim : ℕ) (nonzero : (i : ℕ) → i < lim → 0 < fresh i) where
+      pub data-byte : (k n o : ℕ) (new : List ℕ) (c m : ℕ) → 0 < length new → c < lim → Small new → held W fresh b′ (build W fresh b zero k n o new c) c
+          → (i : ℕ) → i < span W zero → i < m → byteAt W b′ zero (fresh c) m i ≡ splice o new (byteAt W b zero k n i) i
+      unfolding build held byteAt span dataPage
+      data-byte k n o [] c m p q small g i l v = absurd (omega arith)
+      data-byte k n o (x ∷ new) c m p q small g i l v =
+          seen-live (m - i) _ (omega arith)
+          ∙ ap (λ (w : ℕ). byteOf w (i % 8)) (link-cell W pos b′ (fresh c) (i / 8) (nonzero c q) ∙ g .0 (i / 8) (omega arith))
+          ∙ byteOf-wordOf 8 (λ t. splice o (x ∷ new) (seen (n - (8 * (i / 8) + t)) (byteOf (link W b k (i / 8)) t)) (8 * (i / 8) + t))
+          (λ t. splice-small o (x ∷ new) _ (8 * (i / 8) + t) small (seen-lt (n - (8 * (i / 8) + t)) _ 256 (byteOf-lt (link W b k (i / 8)) t))) (i % 8) (omega arith)
+          ∙ ap (λ (y : ℕ). splice o (x ∷ new) (seen (n - y) (byteOf (link W b k (i / 8)) (i % 8))) y) (omega arith)
+
+      -- the pointers of the fresh root: the old one where nothing is written, a fresh one elsewhere
+      pub top-old : (h k n o : ℕ) (new : List ℕ) (c : ℕ) → 0 < length new → c + need W (suc h) o (length new) ≤ lim → held W fresh b′ (build W fresh b (suc h) k n o new c) c
+          → (j : ℕ) → j < W → partLength (span W h) j o (length new) ≤ 0
+          → link W b′ (fresh (c + need W (suc h) o (length new) - 1)) j ≡ seen (n - j * span W h) (link W b k j)
+      unfolding pointerPage
+      top-old h k n o new c p q g j l none =
+          link-cell W pos b′ _ j (nonzero _ (omega (arith, need-pos (suc h) o (length new) p))) ∙ held-root h k n o new c p g j l
+          ∙ choose-zero (partLength (span W h) j o (length new)) _ _ (omega arith)
+
+      pub top-new : (h k n o : ℕ) (new : List ℕ) (c : ℕ) → 0 < length new → c + need W (suc h) o (length new) ≤ lim → held W fresh b′ (build W fresh b (suc h) k n o new c) c
+          → (j : ℕ) → j < W → 0 < partLength (span W h) j o (length new)
+          → link W b′ (fresh (c + need W (suc h) o (length new) - 1)) j ≡ W * fresh (c + needBefore W h o (length new) j + need W h (o - j * span W h) (length (part (span W h) j o new)) - 1)
+      unfolding pointerPage freshPointer
+      top-new h k n o new c p q g j l some =
+          link-cell W pos b′ _ j (nonzero _ (omega (arith, need-pos (suc h) o (length new) p))) ∙ held-root h k n o new c p g j l
+          ∙ choose-pos (partLength (span W h) j o (length new)) _ _ some
+          ∙ ap (λ (l : ℕ). W * fresh (c + needBefore W h o (length new) j + need W h (o - j * span W h) l - 1)) (sym (length-part (span W h) j o new))
+
+      pub build-changed : (top : ℕ) → ((i : ℕ) → i < lim → fresh i < top) → (h k n o : ℕ) (new : List ℕ) (c m : ℕ) → 0 < length new → c + need W h o (length new) ≤ lim → Small new
+          → held W fresh b′ (build W fresh b h k n o new c) c → agree W b b′ h k n → n ≤ m → Cover n m o (length new) (span W h)
+          → Changed W b b′ top h k (fresh (c + need W h o (length new) - 1)) n m o new (λ q. used fresh q c (need W h o (length new)))
+      unfolding need
+      build-changed top below zero k n o [] c m p r small g a le cover = absurd (omega arith)
+      build-changed top below zero k n o (x ∷ new) c m p r small g a le cover =
+          let e : c + 1 - 1 ≡ c = omega arith in
+          rw e (record {
+            bytes = data-byte k n o (x ∷ new) c m p (omega arith) small g;
+            counts = λ q. omega (arith, occ-leaf W pos b′ (fresh c) m q, used-one fresh q c);
+            fine = λ s. sound-leaf W pos top b′ (fresh c) m (below c (omega arith));
+          })
+      build-changed top below (suc h) k n o new c m p r small g a le cover =
+          let s = span W h in
+          let l = length new in
+          let root = c + need W (suc h) o l - 1 in
+          let root-lt : root < lim = omega (arith, need-pos (suc h) o l p) in
+          node W pos b b′ top h k (fresh root) n m o new _ (λ j q. used fresh q (c + needBefore W h o l j) (need W h (o - j * s) (partLength s j o l)))
+          (λ s. below root root-lt)
+          (λ j j-lt t. elim (split (partLength s j o l) 0) [
+            | inl none ↦ rw (top-old h k n o new c p r g j j-lt none) (elim (split (n - j * s) 0) [
+              | inl dead ↦ rw (seen-dead (n - j * s) (link W b k j) (omega arith)) (aligned-zero W pos (m - j * s) 0 (zero-mod W))
+              | inr live ↦ rw (seen-live (n - j * s) (link W b k j) live) (rw (aligned-full W pos (n - j * s) (m - j * s) (link W b k j) live (omega arith)) at t)
+            ])
+            | inr some ↦ rw (top-new h k n o new c p r g j j-lt some) (aligned-zero W pos (m - j * s) _ (mul-mod-right W _))
+          ])
+          (λ q.
+          let total : used fresh q c (need W (suc h) o l) ≡ used fresh q c (needBefore W h o l W) + one q (fresh root) =
+          ap (used fresh q c) (omega (arith, need-suc h o l p)) ∙ used-add fresh q c (needBefore W h o l W) 1
+          ∙ ap (λ (x : ℕ). used fresh q c (needBefore W h o l W) + x) (used-one fresh q (c + needBefore W h o l W) ∙ ap (λ (x : ℕ). one q (fresh x)) (omega (arith, need-suc h o l p))) in
+          omega (arith, total, occ-beneath W pos b h k n q, used-before h o l q c W))
+          (λ j j-lt. elim (split (partLength s j o l) 0) [
+            | inl none ↦ weaken W pos b b′ top h _ _ _ _ _ _ (λ q. 0) _ (λ q. omega arith)
+                (kept W pos b b′ top h (link W b k j / W) (link W b′ (fresh root) j / W) (n - j * s) (m - j * s) (o - j * s) (part s j o new) (rw (length-part s j o new) (omega arith)) (omega arith)
+                (cover-child W h o new n m cover j j-lt) (agree-child W pos b b′ h k n a j j-lt)
+                (λ live. ap (λ (x : ℕ). x / W) (top-old h k n o new c p r g j j-lt none ∙ seen-live (n - j * s) (link W b k j) live)))
+            | inr some ↦ rw (top-new h k n o new c p r g j j-lt some) (rw (mul-div-cancel-left _ pos) (rw (← (length-part s j o new))
+                (build-changed top below h (link W b k j / W) (n - j * s) (o - j * s) (part s j o new) (c + needBefore W h o l j) (m - j * s) (rw (length-part s j o new) some)
+                (room h o new c lim p r j j-lt) (small-part s j o new small) (held-child h k n o new c p g j j-lt) (agree-child W pos b b′ h k n a j j-lt) (omega arith) (cover-child W h o new n m cover j j-lt))))
+          ])
