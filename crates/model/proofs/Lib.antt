@@ -13,8 +13,11 @@ pub mod Changed
 pub mod Built
 pub mod Live
 pub mod Walks
+pub mod Shown
 pub mod Refusals
 pub mod Perform
 pub mod Formatted
+pub mod Accepting
+pub mod Census
 pub mod Computing
 pub mod Marked

@@ -19,13 +19,13 @@ use Rattle.model.proofs.Perform.{length-tabulate}
 
 module _ (W : ℕ) (pos : 0 < W) where
   -- a tree of height h spans W ^ h data blocks
-  spanned-pos : (h : ℕ) → 0 < W ^ h
+  pub spanned-pos : (h : ℕ) → 0 < W ^ h
   spanned-pos h = one-le-pow h W pos
 
-  block-pos : 0 < 8 * W
+  pub block-pos : 0 < 8 * W
   block-pos = omega arith
 
-  span-blocks : (h : ℕ) → span W h ≡ W ^ h * (8 * W)
+  pub span-blocks : (h : ℕ) → span W h ≡ W ^ h * (8 * W)
   span-blocks h = rw (span-power W h, pow-succ' W h, ← mul-assoc 8 W (W ^ h)) (mul-comm (8 * W) (W ^ h))
 
   -- two bytes of one block

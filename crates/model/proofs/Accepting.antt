@@ -1,0 +1,132 @@
+-- What it says of a board that it is accepted, as facts on numbers.
+use mathlib.Core.Path.{_≡_}
+use mathlib.Core.Logic.{inl, inr}
+use mathlib.Core.Bool.{Bool, _&&_}
+use mathlib.Core.List.{List}
+use Prim.Native.Nat.{ℕ, zero, suc, _+_, _-_, _*_, _/_, _%_, _≤_, _<_}
+use native.Mathlib.Omega.{arith}
+use native.Mathlib.Nat.{mod-lt, div-add-mod', mul-comm}
+use lib.ListN.{length}
+use lib.Dec.{T, leb, ltb, eqb, leb→le, ltb→lt, lt→ltb, eqb→eq}
+use Rattle.model.specs.Lists.{every, distinct}
+use Rattle.model.specs.Layout.{Layout, Fits, files}
+use Rattle.model.specs.Tree.{sound, blocks}
+use Rattle.model.specs.Board.{rootBlocks, rootSound, trailerWord, greatest, blockCount, trailer, inodeBlock, inodePointer, leaf, root, size, fileBlocks, liveBlocks, inRange, wordCountSound, trailerSound, leafSound, fileSound, treesSound, accepted}
+use Rattle.model.proofs.Cases.{split, and-left, and-right, and-both, every-of, every-all}
+use Rattle.model.proofs.Counting.{occ, distinct-occ, occ-distinct}
+use Rattle.model.proofs.Perform.{block-on}
+use Rattle.model.proofs.Agree.{sound-none}
+use Rattle.model.proofs.Formatted.{Counted, counted}
+use Rattle.model.proofs.Shown.{words-pos}
+
+-- k is one of 1 to B − 2
+abbrev pub Ranged : Layout → List ℕ → ℕ → Type 0
+Ranged g b k = (0 < k) × (k < blockCount g b - 1)
+
+pub ranged : (g : Layout) (b : List ℕ) (k : ℕ) → T (inRange g b k) → Ranged g b k
+unfolding inRange
+ranged g b k t = (ltb→lt 0 k (and-left (ltb 0 k) (ltb k (blockCount g b - 1)) t), ltb→lt k (blockCount g b - 1) (and-right (ltb 0 k) (ltb k (blockCount g b - 1)) t))
+
+pub in-range : (g : Layout) (b : List ℕ) (k : ℕ) → Ranged g b k → T (inRange g b k)
+unfolding inRange
+in-range g b k r = and-both (ltb 0 k) (ltb k (blockCount g b - 1)) (lt→ltb 0 k (r .0)) (lt→ltb k (blockCount g b - 1) (r .1))
+
+-- the parts of acceptance
+pub record Accepted (g : Layout) (b : List ℕ) : Type 0 where
+  pub words : T (wordCountSound g b)
+  pub trailers : T (trailerSound g b)
+  pub leaves : (l : ℕ) → l < g .leaves → T (leafSound g b l)
+  pub files-sound : (f : ℕ) → f < files g → T (fileSound g b f)
+  pub once : (q : ℕ) → occ q (liveBlocks g b) ≤ 1
+
+module _ (g : Layout) (b : List ℕ) where
+  abbrev L : Bool
+  L = every (g .leaves) (leafSound g b)
+
+  abbrev F : Bool
+  F = every (files g) (fileSound g b)
+
+  abbrev D : Bool
+  D = distinct (liveBlocks g b)
+
+  pub accepted-parts : T (accepted g b) → Accepted g b
+  unfolding accepted treesSound
+  accepted-parts t =
+      let first : T (wordCountSound g b && trailerSound g b) = and-left (wordCountSound g b && trailerSound g b) (L && F && D) t in
+      let trees : T (L && F && D) = and-right (wordCountSound g b && trailerSound g b) (L && F && D) t in
+      record {
+        words = and-left (wordCountSound g b) (trailerSound g b) first;
+        trailers = and-right (wordCountSound g b) (trailerSound g b) first;
+        leaves = every-of (g .leaves) (leafSound g b) (and-left L F (and-left (L && F) D trees));
+        files-sound = every-of (files g) (fileSound g b) (and-right L F (and-left (L && F) D trees));
+        once = distinct-occ (liveBlocks g b) (and-right (L && F) D trees);
+      }
+
+  pub parts-accepted : Accepted g b → T (accepted g b)
+  unfolding accepted treesSound
+  parts-accepted a = and-both (wordCountSound g b && trailerSound g b) (L && F && D) (and-both (wordCountSound g b) (trailerSound g b) (a .words) (a .trailers))
+      (and-both (L && F) D (and-both L F (every-all (g .leaves) (leafSound g b) (a .leaves)) (every-all (files g) (fileSound g b) (a .files-sound))) (occ-distinct (liveBlocks g b) (a .once)))
+
+-- ---- what they say of blocks and files
+
+module _ (g : Layout) (b : List ℕ) where
+  pub root-sound-parts : (height top r n : ℕ) → 0 < n → T (rootSound (g .words) b height top r n) → (r % g .words ≤ height) × T (sound (g .words) b top (r % g .words) (r / g .words) n)
+  unfolding rootSound
+  root-sound-parts height top r zero p t = absurd (omega arith)
+  root-sound-parts height top r (suc n) p t =
+      let u : Bool = leb (r % g .words) height in
+      let v : Bool = sound (g .words) b top (r % g .words) (r / g .words) (suc n) in
+      (leb→le (r % g .words) height (and-left u v t), and-right u v t)
+
+  pub file-parts : (f : ℕ) → T (fileSound g b f) → (size g b f ≤ greatest g) × T (rootSound (g .words) b (g .height) (blockCount g b - 1) (root g b f) (size g b f))
+  unfolding fileSound
+  file-parts f t =
+      let u : Bool = leb (size g b f) (greatest g) in
+      let v : Bool = rootSound (g .words) b (g .height) (blockCount g b - 1) (root g b f) (size g b f) in
+      (leb→le (size g b f) (greatest g) (and-left u v t), and-right u v t)
+
+  inode-range : T (trailerSound g b) → Ranged g b (inodeBlock g b)
+  unfolding trailerSound
+  inode-range t =
+      let m : Bool = eqb (trailer g b 0 % g .words) 1 in
+      let r : Bool = inRange g b (inodeBlock g b) in
+      let w : Bool = every (g .words - 1) (λ j. eqb (trailer g b (suc j)) (trailerWord g (blockCount g b) (suc j))) in
+      ranged g b (inodeBlock g b) (and-right m r (and-left (m && r) w t))
+
+  leaf-range : (l : ℕ) → T (leafSound g b l) → Ranged g b (leaf g b l)
+  unfolding leafSound
+  leaf-range l t = ranged g b (leaf g b l) (and-right (eqb (inodePointer g b l % g .words) 0) (inRange g b (leaf g b l)) t)
+
+-- an accepted board, as facts on numbers
+pub record Facts (g : Layout) (b : List ℕ) : Type 0 where
+  pub sizes : Counted g b
+  pub inode : Ranged g b (inodeBlock g b)
+  pub leaf-in : (l : ℕ) → l < g .leaves → Ranged g b (leaf g b l)
+  pub most : (f : ℕ) → f < files g → size g b f ≤ greatest g
+  pub low : (f : ℕ) → f < files g → 0 < size g b f → root g b f % g .words ≤ g .height
+  pub tree : (f : ℕ) → f < files g → T (sound (g .words) b (blockCount g b - 1) (root g b f % g .words) (root g b f / g .words) (size g b f))
+  pub once : (q : ℕ) → occ q (liveBlocks g b) ≤ 1
+
+module _ (g : Layout) (fit : Fits g) (b : List ℕ) where
+  pub facts : T (accepted g b) → Facts g b
+  facts t =
+      let a = accepted-parts g b t in
+      record {
+        sizes = counted g fit b (a .words);
+        inode = inode-range g b (a .trailers);
+        leaf-in = λ l u. leaf-range g b l (a .leaves l u);
+        most = λ f u. file-parts g b f (a .files-sound f u) .0;
+        low = λ f u live. root-sound-parts g b (g .height) (blockCount g b - 1) (root g b f) (size g b f) live (file-parts g b f (a .files-sound f u) .1) .0;
+        tree = λ f u. elim (split (size g b f) 0) [
+          | inl z ↦ rw (sound-none (g .words) (words-pos g fit) (blockCount g b - 1) b (root g b f % g .words) (root g b f / g .words) (size g b f) (omega arith)) tt
+          | inr live ↦ root-sound-parts g b (g .height) (blockCount g b - 1) (root g b f) (size g b f) live (file-parts g b f (a .files-sound f u) .1) .1
+        ];
+        once = a .once;
+      }
+
+  -- a block in range lies on the board, with all its words
+  pub on-board : Counted g b → (k j : ℕ) → k < blockCount g b → j < g .words → g .words * k + j < length b
+  on-board n k j u l = omega (arith, n .whole, block-on (g .words) k (blockCount g b) u)
+
+  pub address-on-board : Counted g b → (a : ℕ) → a / g .words < blockCount g b → a < length b
+  address-on-board n a u = omega (arith, n .whole, block-on (g .words) (a / g .words) (blockCount g b) u, mod-lt a (words-pos g fit), div-add-mod' a (g .words), mul-comm (g .words) (a / g .words))

@@ -1,0 +1,141 @@
+-- Free blocks: which they are, and how many.
+use mathlib.Core.Path.{_≡_, refl, sym, ap, _∙_}
+use mathlib.Core.Logic.{_⊎_, inl, inr}
+use mathlib.Core.Bool.{Bool, true, false, not, true≢false}
+use mathlib.Core.List.{List, [], _∷_}
+use Prim.Native.Nat.{ℕ, zero, suc, _+_, _-_, _≤_, _<_}
+use native.Mathlib.Omega.{arith}
+use lib.ListN.{length, getD}
+use borrow.Author.Tests.{eq-eqb, ne-eqb, not-true}
+use Rattle.model.specs.Lists.{consIf, pickFrom, member}
+use Rattle.model.specs.Layout.{Layout}
+use Rattle.model.specs.Board.{blockCount, liveBlocks, free}
+use Rattle.model.proofs.Cases.{split, decide}
+use Rattle.model.proofs.Counting.{occ, member-none, member-some}
+
+either : (t : Bool) → (t ≡ true) ⊎ (t ≡ false)
+either true = inl refl
+either false = inr refl
+
+-- ---- Numbers picked from c on
+
+-- x is one of c, c + 1, .., c + n - 1, and p holds of it
+pub record Picked (c n : ℕ) (p : ℕ → Bool) (x : ℕ) : Type 0 where
+  pub from : c ≤ x
+  pub below : x < c + n
+  pub passes : p x ≡ true
+
+module _ (p : ℕ → Bool) where
+  pick-here : (c n : ℕ) → p c ≡ true → pickFrom c (suc n) p ≡ c ∷ pickFrom (c + 1) n p
+  unfolding pickFrom consIf
+  pick-here c n e = rw e
+
+  pick-past : (c n : ℕ) → p c ≡ false → pickFrom c (suc n) p ≡ pickFrom (c + 1) n p
+  unfolding pickFrom consIf
+  pick-past c n e = rw e
+
+  pick-none : (c : ℕ) → pickFrom c zero p ≡ []
+  unfolding pickFrom
+  pick-none c = refl
+
+  first-picked : (c n : ℕ) → p c ≡ true → Picked c (suc n) p c
+  first-picked c n e = record { from = omega arith; below = omega arith; passes = e }
+
+  later-picked : (c n x : ℕ) → Picked (c + 1) n p x → Picked c (suc n) p x
+  later-picked c n x k = record { from = omega (arith, k .from); below = omega (arith, k .below); passes = k .passes }
+
+  -- each of them is picked
+  pub picked-at : (c n i : ℕ) → i < length (pickFrom c n p) → Picked c n p (getD (pickFrom c n p) i 0)
+  picked-at c zero i l = absurd (omega (arith, rw (pick-none c) at l))
+  picked-at c (suc n) zero l = elim (either (p c)) [
+    | inl e ↦ rw (pick-here c n e) (first-picked c n e)
+    | inr e ↦ rw (pick-past c n e) (later-picked c n (getD (pickFrom (c + 1) n p) 0 0) (picked-at (c + 1) n 0 (rw (pick-past c n e) at l)))
+  ]
+  picked-at c (suc n) (suc i) l = elim (either (p c)) [
+    | inl e ↦ let m : suc i < suc (length (pickFrom (c + 1) n p)) = rw (pick-here c n e) at l in
+        rw (pick-here c n e) (later-picked c n (getD (pickFrom (c + 1) n p) i 0) (picked-at (c + 1) n i (omega (arith, m))))
+    | inr e ↦ rw (pick-past c n e) (later-picked c n (getD (pickFrom (c + 1) n p) (suc i) 0) (picked-at (c + 1) n (suc i) (rw (pick-past c n e) at l)))
+  ]
+
+  -- they rise
+  pub picked-rise : (c n i j : ℕ) → i < j → j < length (pickFrom c n p) → getD (pickFrom c n p) i 0 < getD (pickFrom c n p) j 0
+  picked-rise c n i zero r l = absurd (omega arith)
+  picked-rise c zero i (suc j) r l = absurd (omega (arith, rw (pick-none c) at l))
+  picked-rise c (suc n) zero (suc j) r l = elim (either (p c)) [
+    | inl e ↦ let m : suc j < suc (length (pickFrom (c + 1) n p)) = rw (pick-here c n e) at l in
+        rw (pick-here c n e) (omega (arith, picked-at (c + 1) n j (omega (arith, m)) .from))
+    | inr e ↦ rw (pick-past c n e) (picked-rise (c + 1) n 0 (suc j) r (rw (pick-past c n e) at l))
+  ]
+  picked-rise c (suc n) (suc i) (suc j) r l = elim (either (p c)) [
+    | inl e ↦ let m : suc j < suc (length (pickFrom (c + 1) n p)) = rw (pick-here c n e) at l in
+        rw (pick-here c n e) (picked-rise (c + 1) n i j (omega (arith, r)) (omega (arith, m)))
+    | inr e ↦ rw (pick-past c n e) (picked-rise (c + 1) n (suc i) (suc j) r (rw (pick-past c n e) at l))
+  ]
+
+  -- the members are those that are picked
+  pub member-picked : (c n x : ℕ) → member x (pickFrom c n p) ≡ true → Picked c n p x
+  unfolding member
+  member-picked c zero x h = absurd (true≢false (sym h ∙ ap (member x) (pick-none c)))
+  member-picked c (suc n) x h = elim (either (p c)) [
+    | inl e ↦ elim (decide x c) [
+      | inl s ↦ rw s (first-picked c n e)
+      | inr d ↦ later-picked c n x (member-picked (c + 1) n x (rw (pick-here c n e, ne-eqb x c d) at h))
+    ]
+    | inr e ↦ later-picked c n x (member-picked (c + 1) n x (rw (pick-past c n e) at h))
+  ]
+
+  pub picked-member : (c n x : ℕ) → Picked c n p x → member x (pickFrom c n p) ≡ true
+  unfolding member
+  picked-member c zero x k = absurd (omega (arith, k .from, k .below))
+  picked-member c (suc n) x k = elim (decide x c) [
+    | inl s ↦ rw (pick-here c n (rw s at (k .passes)), eq-eqb x c s)
+    | inr d ↦
+        let rest : Picked (c + 1) n p x = record { from = omega (arith, k .from); below = omega (arith, k .below); passes = k .passes } in
+        elim (either (p c)) [
+          | inl e ↦ rw (pick-here c n e, ne-eqb x c d) (picked-member (c + 1) n x rest)
+          | inr e ↦ rw (pick-past c n e) (picked-member (c + 1) n x rest)
+        ]
+  ]
+
+-- ---- Free blocks
+
+module _ (g : Layout) (b : List ℕ) where
+  -- *any of 1 to B − 2 that isn't live*
+  abbrev pub FreeBlock : ℕ → Type 0
+  FreeBlock x = (0 < x) × (x < blockCount g b - 1) × (occ x (liveBlocks g b) ≡ 0)
+
+  unmet : ℕ → Bool
+  unmet k = not (member k (liveBlocks g b))
+
+  picked-free : (x : ℕ) → Picked 1 (blockCount g b - 2) unmet x → FreeBlock x
+  unfolding unmet
+  picked-free x k = (
+    k .from,
+    omega (arith, k .below),
+    elim (split (occ x (liveBlocks g b)) 0) [
+      | inl z ↦ omega arith
+      | inr s ↦ absurd (true≢false (sym (member-some x (liveBlocks g b) s) ∙ not-true (member x (liveBlocks g b)) (k .passes)))
+    ],
+  )
+
+  free-picked : (x : ℕ) → FreeBlock x → Picked 1 (blockCount g b - 2) unmet x
+  unfolding unmet
+  free-picked x k = record { from = k .0; below = omega (arith, k .0, k .1); passes = rw (member-none x (liveBlocks g b) (k .2)) }
+
+  -- the i-th of them
+  pub free-at : (i : ℕ) → i < length (free g b) → FreeBlock (getD (free g b) i 0)
+  unfolding free unmet
+  free-at i l = picked-free (getD (free g b) i 0) (picked-at unmet 1 (blockCount g b - 2) i l)
+
+  -- *rising*
+  pub free-rises : (i j : ℕ) → i < j → j < length (free g b) → getD (free g b) i 0 < getD (free g b) j 0
+  unfolding free unmet
+  free-rises i j r l = picked-rise unmet 1 (blockCount g b - 2) i j r l
+
+  pub member-free : (x : ℕ) → member x (free g b) ≡ true → FreeBlock x
+  unfolding free unmet
+  member-free x h = picked-free x (member-picked unmet 1 (blockCount g b - 2) x h)
+
+  pub free-member : (x : ℕ) → FreeBlock x → member x (free g b) ≡ true
+  unfolding free unmet
+  free-member x k = picked-member unmet 1 (blockCount g b - 2) x (free-picked x k)
