@@ -19,5 +19,9 @@ pub mod Perform
 pub mod Formatted
 pub mod Accepting
 pub mod Census
+pub mod Safety
+pub mod Steps
+pub mod Commits
+pub mod Apart
 pub mod Computing
 pub mod Marked

@@ -1,0 +1,214 @@
+-- The commit law: when each file becomes something sound, on blocks that it had or that were free, the board is accepted again. Several files may
+-- change at once, and inode leaves and the inode pointer block may move.
+use mathlib.Core.Path.{_≡_, refl, sym, ap, _∙_}
+use mathlib.Core.Logic.{_≢_, inl, inr}
+use mathlib.Core.Bool.{Bool, _&&_}
+use mathlib.Core.List.{List}
+use Prim.Native.Nat.{ℕ, zero, suc, _+_, _-_, _*_, _/_, _%_, _≤_, _<_}
+use native.Mathlib.Omega.{arith}
+use lib.ListN.{length}
+use lib.Dec.{T, leb, le→leb}
+use Rattle.model.specs.Lists.{tabulate, sum}
+use Rattle.model.specs.Layout.{Layout, Fits, files}
+use Rattle.model.specs.Tree.{seen, span, blocks, sound}
+use Rattle.model.specs.Board.{rootBlocks, rootSound, greatest, blockCount, trailer, inodeBlock, leaf, root, size, contents, fileBlocks, liveBlocks, wordCountSound, trailerSound, leafSound, fileSound, accepted}
+use Rattle.model.specs.Fresh.{splice}
+use Rattle.model.proofs.Cases.{split, decide, and-both, tabulate-cong}
+use Rattle.model.proofs.Sums.{sum-le, sum-add, only, only-same, only-other, sum-only}
+use Rattle.model.proofs.Counting.{one, occ}
+use Rattle.model.proofs.Agree.{byteAt, agree, seen-live, seen-dead, blocks-none, byteAt-past}
+use Rattle.model.proofs.Splice.{splice-right}
+use Rattle.model.proofs.Changed.{Changed}
+use Rattle.model.proofs.Shown.{rootByte, root-byte-in, root-byte-past, contents-bytes, root-blocks, root-byte, root-sound, words-pos, occ-live}
+use Rattle.model.proofs.Accepting.{Accepted, accepted-parts, parts-accepted, Facts, facts}
+
+-- file f is sound on b₂, reads `wanted`, and has its blocks of b and at most the extra ones
+pub record FileCommit (g : Layout) (b b₂ : List ℕ) (f : ℕ) (wanted : List ℕ) (extra : ℕ → ℕ) : Type 0 where
+  pub sound : T (fileSound g b₂ f)
+  pub reads : contents g b₂ f ≡ wanted
+  pub counts : (q : ℕ) → occ q (fileBlocks g b₂ f) ≤ occ q (fileBlocks g b f) + extra q
+
+-- block k₂ stands where k stood, or is an extra one
+abbrev pub Moved : ℕ → ℕ → (ℕ → ℕ) → Type 0
+Moved k k₂ extra = (q : ℕ) → one q k₂ ≤ one q k + extra q
+
+-- b became b₂: what each file reads, and the extra blocks of the inode pointer block, of each leaf and of each file, none of them live on b, and none twice
+pub record Commit (g : Layout) (b b₂ : List ℕ) (wanted : ℕ → List ℕ) (above : ℕ → ℕ) (beside within : ℕ → ℕ → ℕ) : Type 0 where
+  pub lengths : length b ≡ length b₂
+  pub trailers : T (trailerSound g b₂)
+  pub inode : Moved (inodeBlock g b) (inodeBlock g b₂) above
+  pub leaves : (l : ℕ) → l < g .leaves → T (leafSound g b₂ l)
+  pub leaves-moved : (l : ℕ) → l < g .leaves → Moved (leaf g b l) (leaf g b₂ l) (beside l)
+  pub all-files : (f : ℕ) → f < files g → FileCommit g b b₂ f (wanted f) (within f)
+  pub spare : (q : ℕ) → occ q (liveBlocks g b) + above q + sum (g .leaves) (λ l. beside l q) + sum (files g) (λ f. within f q) ≤ 1
+
+module _ (g : Layout) (b b₂ : List ℕ) where
+  same-words : length b ≡ length b₂ → wordCountSound g b ≡ wordCountSound g b₂
+  unfolding wordCountSound
+  same-words e = rw e
+
+  pub commit-accepted : {wanted : ℕ → List ℕ} {above : ℕ → ℕ} {beside within : ℕ → ℕ → ℕ} → Commit g b b₂ wanted above beside within → T (accepted g b) → T (accepted g b₂)
+  commit-accepted {wanted} {above} {beside} {within} c t = parts-accepted g b₂ (record {
+    words = rw (← (same-words (c .lengths))) (accepted-parts g b t .words);
+    trailers = c .trailers;
+    leaves = c .leaves;
+    files-sound = λ f u. c .all-files f u .sound;
+    once = λ q. omega (
+      arith,
+      c .spare q,
+      c .inode q,
+      occ-live g b q,
+      occ-live g b₂ q,
+      sum-le (g .leaves) (λ l. one q (leaf g b₂ l)) (λ l. one q (leaf g b l) + beside l q) (λ l u. c .leaves-moved l u q),
+      sum-add (g .leaves) (λ l. one q (leaf g b l)) (λ l. beside l q),
+      sum-le (files g) (λ f. occ q (fileBlocks g b₂ f)) (λ f. occ q (fileBlocks g b f) + within f q) (λ f u. c .all-files f u .counts q),
+      sum-add (files g) (λ f. occ q (fileBlocks g b f)) (λ f. within f q),
+    );
+  })
+
+-- ---- What a file becomes
+
+module _ (g : Layout) (fit : Fits g) (b b₂ : List ℕ) (len : length b ≡ length b₂) (f : ℕ) where
+  pos : 0 < g .words
+  pos = words-pos g fit
+
+  count-same : blockCount g b ≡ blockCount g b₂
+  unfolding blockCount
+  count-same = ap (λ (x : ℕ). x / g .words) len
+
+  -- a file that is not touched
+  pub kept-commit : size g b f ≡ size g b₂ f → (0 < size g b f → root g b f ≡ root g b₂ f) → agree (g .words) b b₂ (root g b f % g .words) (root g b f / g .words) (size g b f)
+      → T (fileSound g b f) → FileCommit g b b₂ f (contents g b f) (λ q. 0)
+  unfolding fileSound fileBlocks
+  kept-commit sizes roots tree t =
+      let n : ℕ = size g b f in
+      let e = root-blocks (g .words) pos b b₂ (root g b f) (root g b₂ f) n roots tree in
+      record {
+        sound = rw (← sizes, ← count-same, ← (root-sound (g .words) pos b b₂ (root g b f) (root g b₂ f) n roots tree (g .height) (blockCount g b - 1))) t;
+        reads = rw (contents-bytes g pos b f, contents-bytes g pos b₂ f, ← sizes) (tabulate-cong n _ _ (λ i l. sym (root-byte (g .words) pos b b₂ (root g b f) (root g b₂ f) n roots tree i l)));
+        counts = λ q. rw (← sizes, ← e) (omega arith);
+      }
+
+  root-sound-of : (height top r n : ℕ) → r % g .words ≤ height → T (sound (g .words) b₂ top (r % g .words) (r / g .words) n) → T (rootSound (g .words) b₂ height top r n)
+  unfolding rootSound
+  root-sound-of height top r zero p t = tt
+  root-sound-of height top r (suc n) p t = and-both (leb (r % g .words) height) (sound (g .words) b₂ top (r % g .words) (r / g .words) (suc n)) (le→leb (r % g .words) height p) t
+
+  -- the tree that the file had, where its size is above 0
+  abbrev pub Had : ℕ → ℕ → Type 0
+  Had h k = 0 < size g b f → (h ≡ root g b f % g .words) × (k ≡ root g b f / g .words)
+
+  had-blocks : (h k : ℕ) → Had h k → blocks (g .words) b h k (size g b f) ≡ fileBlocks g b f
+  unfolding fileBlocks rootBlocks
+  had-blocks h k old = elim (split (size g b f) 0) [
+    | inl z ↦ let z′ : size g b f ≡ 0 = omega arith in
+        blocks-none (g .words) pos b h k (size g b f) z′ ∙ sym (blocks-none (g .words) pos b (root g b f % g .words) (root g b f / g .words) (size g b f) z′)
+    | inr z ↦ rw (old z .0, old z .1)
+  ]
+
+  had-byte : (h k i : ℕ) → Had h k → i < span (g .words) h → byteAt (g .words) b h k (size g b f) i ≡ seen (size g b f - i) (rootByte (g .words) b (root g b f) (size g b f) i)
+  had-byte h k i old l = elim (split (size g b f) i) [
+    | inl z ↦ byteAt-past (g .words) pos b h k (size g b f) i z ∙ sym (seen-dead (size g b f - i) _ (omega arith))
+    | inr z ↦ let o = old (omega arith) in
+        rw (o .0, o .1) (sym (seen-live (size g b f - i) _ (omega arith) ∙ root-byte-in (g .words) b (root g b f) (size g b f) i (rw (← (o .0)) l)))
+  ]
+
+  -- a file that is written: m bytes, `new` at o, in a tree of the height that it had
+  pub record Written (h k o m : ℕ) (new : List ℕ) (extra : ℕ → ℕ) : Type 0 where
+    pub old : Had h k
+    pub height : root g b₂ f % g .words ≡ h
+    pub now : size g b₂ f ≡ m
+    pub low : h ≤ g .height
+    pub most : m ≤ greatest g
+    pub reach : o + length new ≤ span (g .words) h
+    pub change : Changed (g .words) b b₂ (blockCount g b - 1) h k (root g b₂ f / g .words) (size g b f) m o new extra
+
+  -- the bytes that it then has
+  abbrev pub spliced : ℕ → List ℕ → ℕ → List ℕ
+  spliced o new m = tabulate m (λ i. splice o new (seen (size g b f - i) (rootByte (g .words) b (root g b f) (size g b f) i)) i)
+
+  module _ (h k o m : ℕ) (new : List ℕ) (extra : ℕ → ℕ) (w : Written h k o m new extra) where
+    written-byte : (i : ℕ) → i < m → rootByte (g .words) b₂ (root g b₂ f) m i ≡ splice o new (seen (size g b f - i) (rootByte (g .words) b (root g b f) (size g b f) i)) i
+    written-byte i l =
+        let n : ℕ = size g b f in
+        elim (split (span (g .words) h) i) [
+          | inl past ↦ root-byte-past (g .words) b₂ (root g b₂ f) m i (rw (w .height) past)
+              ∙ sym (splice-right o new _ i (omega (arith, w .reach)) ∙ elim (split n i) [
+                | inl z ↦ seen-dead (n - i) _ (omega arith)
+                | inr z ↦ seen-live (n - i) _ (omega arith) ∙ root-byte-past (g .words) b (root g b f) n i (rw (← (w .old (omega arith) .0)) past)
+              ])
+          | inr l′ ↦
+              let now : byteAt (g .words) b₂ (root g b₂ f % g .words) (root g b₂ f / g .words) m i ≡ splice o new (byteAt (g .words) b h k n i) i = rw (w .height) (w .change .bytes i l′ l) in
+              root-byte-in (g .words) b₂ (root g b₂ f) m i (rw (w .height) l′) ∙ now ∙ ap (λ (x : ℕ). splice o new x i) (had-byte h k i (w .old) l′)
+        ]
+
+    pub written-commit : T (sound (g .words) b (blockCount g b - 1) h k (size g b f)) → FileCommit g b b₂ f (spliced o new m) extra
+    unfolding fileSound fileBlocks rootBlocks
+    written-commit t = record {
+      sound = rw (w .now, ← count-same) (and-both (leb m (greatest g)) (rootSound (g .words) b₂ (g .height) (blockCount g b - 1) (root g b₂ f) m) (le→leb m (greatest g) (w .most))
+          (root-sound-of (g .height) (blockCount g b - 1) (root g b₂ f) m (rw (w .height) (w .low)) (rw (w .height) (w .change .fine t))));
+      reads = rw (contents-bytes g pos b₂ f, w .now) (tabulate-cong m _ _ written-byte);
+      counts = λ q. rw (w .height, w .now) (omega (arith, w .change .counts q, ap (occ q) (had-blocks h k (w .old))));
+    }
+
+-- ---- One file
+
+-- all that is visible of the files other than f is the same
+pub record Others (g : Layout) (b b₂ : List ℕ) (f : ℕ) : Type 0 where
+  pub sizes : (i : ℕ) → i < files g → i ≢ f → size g b i ≡ size g b₂ i
+  pub roots : (i : ℕ) → i < files g → i ≢ f → 0 < size g b i → root g b i ≡ root g b₂ i
+  pub trees : (i : ℕ) → i < files g → i ≢ f → agree (g .words) b b₂ (root g b i % g .words) (root g b i / g .words) (size g b i)
+
+-- file f alone is changed, and with it its leaf may move: `beside` and `within` count the extra blocks of the two
+pub record OneFile (g : Layout) (b b₂ : List ℕ) (f : ℕ) (wanted : List ℕ) (beside within : ℕ → ℕ) : Type 0 where
+  pub lengths : length b ≡ length b₂
+  pub trailers : T (trailerSound g b₂)
+  pub inode : inodeBlock g b ≡ inodeBlock g b₂
+  pub leaves : (l : ℕ) → l < g .leaves → T (leafSound g b₂ l)
+  pub leaves-stay : (l : ℕ) → l < g .leaves → l ≢ f / g .inodes → leaf g b l ≡ leaf g b₂ l
+  pub leaf-moved : Moved (leaf g b (f / g .inodes)) (leaf g b₂ (f / g .inodes)) beside
+  pub others : Others g b b₂ f
+  pub file : FileCommit g b b₂ f wanted within
+  pub spare : (q : ℕ) → occ q (liveBlocks g b) + beside q + within q ≤ 1
+
+-- the board is accepted, the file reads as wanted, and the others as before
+pub record Outcome (g : Layout) (b b₂ : List ℕ) (f : ℕ) (wanted : List ℕ) : Type 0 where
+  pub board : T (accepted g b₂)
+  pub reads : contents g b₂ f ≡ wanted
+  pub kept : (i : ℕ) → i < files g → i ≢ f → contents g b₂ i ≡ contents g b i
+
+module _ (g : Layout) (fit : Fits g) (b b₂ : List ℕ) (f : ℕ) (wanted : List ℕ) (beside within : ℕ → ℕ) (c : OneFile g b b₂ f wanted beside within) (t : T (accepted g b)) where
+  -- what file i reads
+  reads-of : ℕ → List ℕ
+  reads-of i = contents g b₂ i
+
+  other : (i : ℕ) → i < files g → i ≢ f → FileCommit g b b₂ i (contents g b i) (λ q. 0)
+  other i u d = kept-commit g fit b b₂ (c .lengths) i (c .others .sizes i u d) (c .others .roots i u d) (c .others .trees i u d) (accepted-parts g b t .files-sound i u)
+
+  each : (i : ℕ) → i < files g → FileCommit g b b₂ i (reads-of i) (λ q. only i f (within q))
+  unfolding reads-of
+  each i u = elim (decide i f) [
+    | inl e ↦ rw e (record { sound = c .file .sound; reads = refl; counts = λ q. omega (arith, c .file .counts q, only-same f (within q)) })
+    | inr d ↦ let o = other i u d in record { sound = o .sound; reads = refl; counts = λ q. omega (arith, o .counts q) }
+  ]
+
+  commit : Commit g b b₂ reads-of (λ q. 0) (λ l q. only l (f / g .inodes) (beside q)) (λ i q. only i f (within q))
+  commit = record {
+    lengths = c .lengths;
+    trailers = c .trailers;
+    inode = λ q. omega (arith, ap (one q) (c .inode));
+    leaves = c .leaves;
+    leaves-moved = λ l u q. elim (decide l (f / g .inodes)) [
+      | inl e ↦ rw e (omega (arith, c .leaf-moved q, only-same (f / g .inodes) (beside q)))
+      | inr d ↦ omega (arith, ap (one q) (c .leaves-stay l u d))
+    ];
+    all-files = each;
+    spare = λ q. omega (arith, c .spare q, sum-only (g .leaves) (f / g .inodes) (beside q), sum-only (files g) f (within q));
+  }
+
+  pub one-file : Outcome g b b₂ f wanted
+  one-file = record {
+    board = commit-accepted g b b₂ commit t;
+    reads = c .file .reads;
+    kept = λ i u d. other i u d .reads;
+  }

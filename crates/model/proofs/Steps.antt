@@ -1,0 +1,205 @@
+-- From steps to safe plans: what has to be known of each step, and that the plan of such steps obeys the power-cut rule and leaves the board with all
+-- steps committed.
+use mathlib.Core.Path.{_≡_, refl, sym, subst, _∙_}
+use mathlib.Core.Logic.{_≢_, inl, inr}
+use mathlib.Core.Bool.{false}
+use mathlib.Core.List.{List, [], _∷_, _++_}
+use Prim.Native.Nat.{ℕ, zero, suc, _-_, _<_}
+use native.Mathlib.Omega.{arith}
+use lib.ListN.{length, getD, set}
+use lib.Seq.{take-length}
+use lib.Dec.{T}
+use borrow.Author.Tests.{eq-eqb, ne-eqb}
+use Rattle.model.specs.Lists.{all, concat}
+use Rattle.model.specs.Layout.{Layout, Fits, files}
+use Rattle.model.specs.Board.{contents, accepted}
+use Rattle.model.specs.Store.{Store, performed, epochs}
+use Rattle.model.specs.Hidden.{hidden}
+use Rattle.model.specs.Plan.{Step, stepEpochs, planEpochs}
+use Rattle.model.specs.Cut.{Cut, Names, standing, lastArrived}
+use Rattle.model.specs.Safe.{left, SafePlan, decided}
+use Rattle.model.specs.Claims.{Shows, HiddenRule, CutSafe, Altered}
+use Rattle.model.proofs.Cases.{decide}
+use Rattle.model.proofs.Perform.{performed-append}
+use Rattle.model.proofs.Safety.{left-zero, left-cons, decided-early, decided-same, hidden-shows, none-safe, safe-rule}
+
+suc-sub-one : (n : ℕ) → suc n - 1 ≡ n
+suc-sub-one n = omega arith
+
+-- ---- Steps on a board
+
+-- the board with a step's stores performed
+unfoldable pub committed : List ℕ → Step → List ℕ
+committed b p = set (performed b (p .hidden)) (p .commit .at) (p .commit .value)
+
+-- with those of several steps
+unfoldable pub allCommitted : List ℕ → List Step → List ℕ
+allCommitted b [] = b
+allCommitted b (p ∷ ps) = allCommitted (committed b p) ps
+
+-- a step of a change of file f
+pub record SafeStep (g : Layout) (b : List ℕ) (f : ℕ) (p : Step) : Type 0 where
+  pub hides : T (all (hidden g b) (p .hidden))
+  pub accepts : T (accepted g (committed b p))
+  pub others : (e : ℕ) → e < files g → e ≢ f → contents g (committed b p) e ≡ contents g b e
+
+-- each of several is one on the board that those before it leave, and all but the last leave file f too as it is
+unfoldable pub SafeSteps : Layout → List ℕ → ℕ → List Step → Type 0
+SafeSteps g b f [] = Unit
+SafeSteps g b f (p ∷ ps) = SafeStep g b f p × (0 < length ps → contents g (committed b p) f ≡ contents g b f) × SafeSteps g (committed b p) f ps
+
+module _ (g : Layout) (b : List ℕ) (f : ℕ) where
+  pub no-step : SafeSteps g b f []
+  unfolding SafeSteps
+  no-step = tt
+
+  pub one-step : (p : Step) → SafeStep g b f p → SafeSteps g b f (p ∷ [])
+  unfolding SafeSteps
+  one-step p s = (s, λ l. absurd (omega arith), tt)
+
+  pub two-steps : (p q : Step) → SafeStep g b f p → contents g (committed b p) f ≡ contents g b f → SafeStep g (committed b p) f q → SafeSteps g b f (p ∷ q ∷ [])
+  unfolding SafeSteps
+  two-steps p q s e t = (s, λ l. e, (t, λ l. absurd (omega arith), tt))
+
+-- ---- The board that they leave
+
+performed-step : (b : List ℕ) (ss : List Store) (c : Store) (es : List (List Store))
+    → performed b (concat (stepEpochs ss c ++ es)) ≡ performed (set (performed b ss) (c .at) (c .value)) (concat es)
+unfolding performed concat stepEpochs
+performed-step b [] c es = refl
+performed-step b (s ∷ ss) c es = performed-append b (s ∷ ss) (c ∷ concat es)
+
+pub performed-steps : (b : List ℕ) (ps : List Step) → performed b (concat (planEpochs ps)) ≡ allCommitted b ps
+unfolding performed concat planEpochs committed allCommitted
+performed-steps b [] = refl
+performed-steps b (p ∷ ps) = performed-step b (p .hidden) (p .commit) (planEpochs ps) ∙ performed-steps (committed b p) ps
+
+pub left-steps : (b : List ℕ) (ps : List Step) → left b (planEpochs ps) (length (planEpochs ps)) ≡ allCommitted b ps
+unfolding left
+left-steps b ps = rw (take-length (planEpochs ps)) (performed-steps b ps)
+
+-- ---- Their last epoch
+
+-- the last epoch is one store
+abbrev pub EndsInOne : List (List Store) → Type 0
+EndsInOne es = (d : ℕ) → suc d ≡ length es → length (getD es d []) ≡ 1
+
+ends-step : (ss : List Store) (c : Store) (es : List (List Store)) → EndsInOne es → EndsInOne (stepEpochs ss c ++ es)
+unfolding stepEpochs
+ends-step [] c es h zero e = refl
+ends-step [] c es h (suc d) e = h d (omega arith)
+ends-step (s ∷ ss) c es h zero e = absurd (omega arith)
+ends-step (s ∷ ss) c es h (suc zero) e = refl
+ends-step (s ∷ ss) c es h (suc (suc d)) e = h d (omega arith)
+
+pub ends-in-one : (ps : List Step) → EndsInOne (planEpochs ps)
+unfolding planEpochs
+ends-in-one [] d e = absurd (omega arith)
+ends-in-one (p ∷ ps) d e = ends-step (p .hidden) (p .commit) (planEpochs ps) (ends-in-one ps) d e
+
+step-some : (ss : List Store) (c : Store) (es : List (List Store)) → 0 < length (stepEpochs ss c ++ es)
+unfolding stepEpochs
+step-some [] c es = omega arith
+step-some (s ∷ ss) c es = omega arith
+
+steps-some : (ps : List Step) → 0 < length (planEpochs ps) → 0 < length ps
+unfolding planEpochs
+steps-some [] l = l
+steps-some (p ∷ ps) l = omega arith
+
+-- where the last epoch is one store, the last planned store is the store of that epoch
+pub decided-last : (ss : List Store) → 0 < length (epochs ss) → EndsInOne (epochs ss) → (x : Cut) → Names ss x → decided (length (epochs ss) - 1) x ≡ lastArrived ss x
+unfolding lastArrived
+decided-last ss l one x x-lt = elim (decide (suc (x .epoch)) (length (epochs ss))) [
+  | inl e ↦ decided-same (length (epochs ss) - 1) x (omega arith) ∙ sym (last e)
+  | inr n ↦ decided-early (length (epochs ss) - 1) x (omega arith) ∙ sym (earlier n)
+]
+  where
+    last : suc (x .epoch) ≡ length (epochs ss) → lastArrived ss x ≡ x .arrived 0
+    last e = rw (eq-eqb (suc (x .epoch)) (length (epochs ss)) e, one (x .epoch) e)
+
+    earlier : suc (x .epoch) ≢ length (epochs ss) → lastArrived ss x ≡ false
+    earlier n = rw (ne-eqb (suc (x .epoch)) (length (epochs ss)) n)
+
+-- ---- Safe plans, one epoch at a time
+
+-- what a safe plan asks of an epoch e that makes c of b; where `keeping` holds it must not change file f
+record SafeEpoch (g : Layout) (f : ℕ) (b c : List ℕ) (e : List Store) (keeping : Type 0) : Type 0 where
+  hides : 1 < length e → T (all (hidden g b) e)
+  accepts : length e ≡ 1 → T (accepted g c)
+  keeps : length e ≡ 1 → keeping → contents g c f ≡ contents g b f
+  others : length e ≡ 1 → (o : ℕ) → o < files g → o ≢ f → contents g c o ≡ contents g b o
+
+module _ (g : Layout) (f : ℕ) where
+  safe-each : (b : List ℕ) (es : List (List Store)) (d : ℕ) → ((i : ℕ) → i < length es → SafeEpoch g f (left b es i) (left b es (suc i)) (getD es i []) (i ≢ d)) → SafePlan g b f es d
+  safe-each b es d s = record { hides = λ i l. s i l .hides; accepts = λ i l. s i l .accepts; keeps = λ i l. s i l .keeps; others = λ i l. s i l .others }
+
+  -- one more epoch in front of a plan in which the last epoch decides
+  safe-cons : (b : List ℕ) (e : List Store) (es : List (List Store)) → SafeEpoch g f b (performed b e) e (0 < length es)
+      → SafePlan g (performed b e) f es (length es - 1) → SafePlan g b f (e ∷ es) (length es)
+  safe-cons b e es s t = safe-each b (e ∷ es) (length es) each
+    where
+      each : (i : ℕ) → i < suc (length es) → SafeEpoch g f (left b (e ∷ es) i) (left b (e ∷ es) (suc i)) (getD (e ∷ es) i []) (i ≢ length es)
+      each zero l = rw (left-zero b (e ∷ es), left-cons b e es 0, left-zero (performed b e) es)
+          record { hides = s .hides; accepts = s .accepts; keeps = λ one n. s .keeps one (omega arith); others = s .others }
+      each (suc i) l =
+          let m : i < length es = omega arith in
+          rw (left-cons b e es i, left-cons b e es (suc i))
+          record { hides = t .hides i m; accepts = t .accepts i m; keeps = λ one n. t .keeps i m one (omega arith); others = t .others i m }
+
+module _ (hidden-rule : HiddenRule) (g : Layout) (fit : Fits g) (f : ℕ) (f-lt : f < files g) where
+  module _ (b : List ℕ) (ok : T (accepted g b)) where
+    hidden-epoch : (ss : List Store) → T (all (hidden g b) ss) → (keeping : Type 0) → SafeEpoch g f b (performed b ss) ss keeping
+    hidden-epoch ss h keeping =
+        let s : Shows g b (performed b ss) = hidden-shows hidden-rule g fit b ok ss h in
+        record { hides = λ l. h; accepts = λ one. rw (s .boards) ok; keeps = λ one t. s .reads f f-lt; others = λ one o l n. s .reads o l }
+
+    commit-epoch : (p : Step) → SafeStep g b f p → (keeping : Type 0) → (keeping → contents g (committed b p) f ≡ contents g b f)
+        → SafeEpoch g f (performed b (p .hidden)) (committed b p) (p .commit ∷ []) keeping
+    commit-epoch p safe keeping kept =
+        let s : Shows g b (performed b (p .hidden)) = hidden-shows hidden-rule g fit b ok (p .hidden) (safe .hides) in
+        record {
+          hides = λ l. absurd (omega arith);
+          accepts = λ one. safe .accepts;
+          keeps = λ one t. kept t ∙ sym (s .reads f f-lt);
+          others = λ one o l n. safe .others o l n ∙ sym (s .reads o l);
+        }
+
+    -- the epoch of hidden stores in front of a commit, if there are any
+    safe-hidden : (ss : List Store) → T (all (hidden g b) ss) → (c : Store) (es : List (List Store)) → SafePlan g (performed b ss) f ((c ∷ []) ∷ es) (length es)
+        → SafePlan g b f (stepEpochs ss c ++ es) (length (stepEpochs ss c ++ es) - 1)
+    unfolding stepEpochs performed
+    safe-hidden [] h c es t = rw (suc-sub-one (length es)) t
+    safe-hidden (s ∷ ss) h c es t = rw (suc-sub-one (suc (length es))) (safe-cons g f b (s ∷ ss) ((c ∷ []) ∷ es) (hidden-epoch (s ∷ ss) h (0 < suc (length es))) (rw (suc-sub-one (length es)) t))
+
+    safe-step : (p : Step) → SafeStep g b f p → (es : List (List Store)) → (0 < length es → contents g (committed b p) f ≡ contents g b f)
+        → SafePlan g (committed b p) f es (length es - 1) → SafePlan g b f (stepEpochs (p .hidden) (p .commit) ++ es) (length (stepEpochs (p .hidden) (p .commit) ++ es) - 1)
+    unfolding committed performed
+    safe-step p safe es kept t = safe-hidden (p .hidden) (safe .hides) (p .commit) es
+        (safe-cons g f (performed b (p .hidden)) (p .commit ∷ []) es (commit-epoch p safe (0 < length es) kept) t)
+
+  pub safe-steps : (b : List ℕ) → T (accepted g b) → (ps : List Step) → SafeSteps g b f ps → SafePlan g b f (planEpochs ps) (length (planEpochs ps) - 1)
+  unfolding planEpochs SafeSteps
+  safe-steps b ok [] s = safe-each g f b [] (0 - 1) (λ i l. absurd (omega arith))
+  safe-steps b ok (p ∷ ps) s = safe-step b ok p (s .0) (planEpochs ps) (λ l. s .1 (steps-some ps l)) (safe-steps (committed b p) (s .0 .accepts) ps (s .2))
+
+  -- a plan of such steps obeys the power-cut rule
+  pub steps-rule : (b : List ℕ) → T (accepted g b) → (ps : List Step) → SafeSteps g b f ps → (wanted : List ℕ) → contents g (allCommitted b ps) f ≡ wanted
+      → (ss : List Store) → epochs ss ≡ planEpochs ps → (x : Cut) → Names ss x → CutSafe g b (standing ss x b) f wanted ss (lastArrived ss x)
+  unfolding planEpochs allCommitted
+  steps-rule b ok [] s wanted reads ss e x x-lt = subst (λ (w : List ℕ). CutSafe g b (standing ss x b) f w ss (lastArrived ss x)) reads (none-safe ss e b g ok f x (lastArrived ss x))
+  steps-rule b ok (p ∷ ps) s wanted reads ss e x x-lt =
+      let safe : SafePlan g b f (epochs ss) (length (epochs ss) - 1) = rw e (safe-steps b ok (p ∷ ps) s) in
+      let some : 0 < length (epochs ss) = rw e (step-some (p .hidden) (p .commit) (planEpochs ps)) in
+      let ends : EndsInOne (epochs ss) = rw e (ends-in-one (p ∷ ps)) in
+      let whole : left b (epochs ss) (length (epochs ss)) ≡ allCommitted b (p ∷ ps) = rw e (left-steps b (p ∷ ps)) in
+      rw (whole, reads, decided-last ss some ends x x-lt) at (safe-rule hidden-rule g fit b ok f f-lt ss (length (epochs ss) - 1) safe x x-lt)
+
+-- performed whole, it alters file f alone
+pub steps-altered : (g : Layout) (b : List ℕ) → T (accepted g b) → (f : ℕ) (ps : List Step) → SafeSteps g b f ps → (wanted : List ℕ) → contents g (allCommitted b ps) f ≡ wanted
+    → Altered g b (allCommitted b ps) f wanted
+unfolding allCommitted SafeSteps
+steps-altered g b ok f [] s wanted reads = record { board = ok; file = reads; others = λ e l n. refl }
+steps-altered g b ok f (p ∷ ps) s wanted reads =
+    let a : Altered g (committed b p) (allCommitted (committed b p) ps) f wanted = steps-altered g (committed b p) (s .0 .accepts) f ps (s .2) wanted reads in
+    record { board = a .board; file = reads; others = λ e l n. a .others e l n ∙ s .0 .others e l n }
