@@ -1,14 +1,15 @@
 -- What is visible of a tree: its bytes, boards that agree on it, and stores that do not alter it.
 use mathlib.Core.Path.{_≡_, refl, sym, ap, ap₂, _∙_, subst}
 use mathlib.Core.Logic.{_≢_, inl, inr}
-use mathlib.Core.Bool.{Bool, true, _&&_}
+use mathlib.Core.Bool.{Bool, true, cond, _&&_}
 use mathlib.Core.List.{List, [], _∷_}
-use Prim.Native.Nat.{ℕ, zero, suc, _+_, _-_, _*_, _/_, _%_, _≤_, _<_}
+use Prim.Native.Nat.{ℕ, zero, suc, _+_, _-_, _*_, _/_, _%_, _^_, _≤_, _<_}
 use native.Mathlib.Omega.{arith}
 use native.Mathlib.Nat.{mod-lt, div-add-mod', zero-div, zero-mod, mul-le-mul-right}
 use lib.ListN.{length, getD, set, length-set}
 use lib.Seq.{getD-set-same, getD-set-other, set-out}
 use lib.Dec.{T, ltb, lt→ltb, ltb→lt}
+use borrow.Author.Tests.{lt-ltb, le-ltb}
 use Rattle.model.specs.Lists.{every, joined, sum}
 use Rattle.model.specs.Words.{byteOf}
 use Rattle.model.specs.Tree.{seen, span, aligned, cell, link, blocks, sound}
@@ -26,6 +27,10 @@ module _ (W : ℕ) where
   unfoldable pub byteAt : List ℕ → ℕ → ℕ → ℕ → ℕ → ℕ
   byteAt b zero k n i = seen (n - i) (byteOf (link W b k (i / 8)) (i % 8))
   byteAt b (suc h) k n i = byteAt b h (link W b k (i / span W h) / W) (n - i / span W h * span W h) (i % span W h)
+
+  -- the same for any i: 0 past the span too
+  unfoldable pub spanByte : List ℕ → ℕ → ℕ → ℕ → ℕ → ℕ
+  spanByte b h k n i = cond (ltb i (span W h)) (byteAt b h k n i) 0
 
   -- all that is visible of the tree is the same on both boards: live pointers, and bytes below the size
   unfoldable pub agree : List ℕ → List ℕ → ℕ → ℕ → ℕ → Type 0
@@ -46,6 +51,31 @@ pub seen-lt : (n w t : ℕ) → w < t → seen n w < t
 unfolding seen
 seen-lt zero w t h = omega arith
 seen-lt (suc n) w t h = h
+
+seen-zero : (n : ℕ) → seen n 0 ≡ 0
+unfolding seen
+seen-zero zero = refl
+seen-zero (suc n) = refl
+
+module _ (W : ℕ) (b : List ℕ) where
+  pub byteAt-null : (h n i : ℕ) → byteAt W b h 0 n i ≡ 0
+  unfolding byteAt link byteOf
+  byteAt-null zero n i = rw (zero-div (256 ^ (i % 8)), zero-mod 256) (seen-zero (n - i))
+  byteAt-null (suc h) n i = rw (zero-div W) (byteAt-null h (n - i / span W h * span W h) (i % span W h))
+
+  pub span-byte-in : (h k n i : ℕ) → i < span W h → spanByte W b h k n i ≡ byteAt W b h k n i
+  unfolding spanByte
+  span-byte-in h k n i l = rw (lt-ltb i (span W h) l)
+
+  pub span-byte-past : (h k n i : ℕ) → span W h ≤ i → spanByte W b h k n i ≡ 0
+  unfolding spanByte
+  span-byte-past h k n i l = rw (le-ltb i (span W h) l)
+
+  pub span-byte-null : (h n i : ℕ) → spanByte W b h 0 n i ≡ 0
+  span-byte-null h n i = elim (split (span W h) i) [
+    | inl past ↦ span-byte-past h 0 n i past
+    | inr l ↦ span-byte-in h 0 n i l ∙ byteAt-null h n i
+  ]
 
 module _ (W : ℕ) (pos : 0 < W) where
   -- ---- nothing is visible of a tree that is not live, nor in a hole
@@ -120,6 +150,12 @@ module _ (W : ℕ) (pos : 0 < W) where
           | inl d ↦ byteAt-past b h (link W b k j / W) m (i % span W h) (omega arith) ∙ sym (byteAt-past b′ h (link W b′ k j / W) m (i % span W h) (omega arith))
           | inr d ↦ rw (← (a j (child W pos h i l .which) d .0)) (agree-byte h (link W b k j / W) m (i % span W h) (mod-lt i (span-pos W pos h)) (a j (child W pos h i l .which) d .1))
         ]
+
+    pub agree-span-byte : (h k n i : ℕ) → agree W b b′ h k n → spanByte W b h k n i ≡ spanByte W b′ h k n i
+    agree-span-byte h k n i a = elim (split (span W h) i) [
+      | inl past ↦ span-byte-past W b h k n i past ∙ sym (span-byte-past W b′ h k n i past)
+      | inr l ↦ span-byte-in W b h k n i l ∙ agree-byte h k n i l a ∙ sym (span-byte-in W b′ h k n i l)
+    ]
 
   -- ---- agreement is an equivalence
 

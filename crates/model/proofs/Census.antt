@@ -1,21 +1,24 @@
--- Free blocks: which they are, and how many.
+-- Free blocks: which they are, and how many. Live blocks lie in 1 to B − 2 and no block is reached twice, so the free ones are the rest of these.
 use mathlib.Core.Path.{_≡_, refl, sym, ap, _∙_}
-use mathlib.Core.Logic.{_⊎_, inl, inr}
+use mathlib.Core.Logic.{_≢_, inl, inr}
 use mathlib.Core.Bool.{Bool, true, false, not, true≢false}
 use mathlib.Core.List.{List, [], _∷_}
-use Prim.Native.Nat.{ℕ, zero, suc, _+_, _-_, _≤_, _<_}
+use Prim.Native.Nat.{ℕ, zero, suc, _+_, _-_, _*_, _/_, _%_, _≤_, _<_}
 use native.Mathlib.Omega.{arith}
 use lib.ListN.{length, getD}
-use borrow.Author.Tests.{eq-eqb, ne-eqb, not-true}
-use Rattle.model.specs.Lists.{consIf, pickFrom, member}
-use Rattle.model.specs.Layout.{Layout}
-use Rattle.model.specs.Board.{blockCount, liveBlocks, free}
-use Rattle.model.proofs.Cases.{split, decide}
-use Rattle.model.proofs.Counting.{occ, member-none, member-some}
-
-either : (t : Bool) → (t ≡ true) ⊎ (t ≡ false)
-either true = inl refl
-either false = inr refl
+use lib.Dec.{T, ltb}
+use borrow.Author.Tests.{ltb-true, eq-eqb, ne-eqb, not-true}
+use Rattle.model.specs.Lists.{sum, all, consIf, pickFrom, member}
+use Rattle.model.specs.Layout.{Layout, Fits, files}
+use Rattle.model.specs.Tree.{span, cell, blocks, sound}
+use Rattle.model.specs.Board.{rootBlocks, blockCount, inodeBlock, leaf, root, size, fileBlocks, liveBlocks, free, accepted}
+use Rattle.model.proofs.Cases.{split, decide, either, is-true, true-left, true-right}
+use Rattle.model.proofs.Sums.{sum-zero, sum-some}
+use Rattle.model.proofs.Counting.{one, occ, one-same, one-other, occ-joined, member-none, member-some}
+use Rattle.model.proofs.Trees.{childBlocks}
+use Rattle.model.proofs.Live.{below, sound-below}
+use Rattle.model.proofs.Shown.{occ-live}
+use Rattle.model.proofs.Accepting.{Ranged, Facts, facts}
 
 -- ---- Numbers picked from c on
 
@@ -43,6 +46,9 @@ module _ (p : ℕ → Bool) where
 
   later-picked : (c n x : ℕ) → Picked (c + 1) n p x → Picked c (suc n) p x
   later-picked c n x k = record { from = omega (arith, k .from); below = omega (arith, k .below); passes = k .passes }
+
+  picked-rest : (c n x : ℕ) → c ≢ x → Picked c (suc n) p x → Picked (c + 1) n p x
+  picked-rest c n x d k = record { from = omega (arith, k .from, d); below = omega (arith, k .below); passes = k .passes }
 
   -- each of them is picked
   pub picked-at : (c n i : ℕ) → i < length (pickFrom c n p) → Picked c n p (getD (pickFrom c n p) i 0)
@@ -87,14 +93,12 @@ module _ (p : ℕ → Bool) where
   pub picked-member : (c n x : ℕ) → Picked c n p x → member x (pickFrom c n p) ≡ true
   unfolding member
   picked-member c zero x k = absurd (omega (arith, k .from, k .below))
-  picked-member c (suc n) x k = elim (decide x c) [
-    | inl s ↦ rw (pick-here c n (rw s at (k .passes)), eq-eqb x c s)
-    | inr d ↦
-        let rest : Picked (c + 1) n p x = record { from = omega (arith, k .from); below = omega (arith, k .below); passes = k .passes } in
-        elim (either (p c)) [
-          | inl e ↦ rw (pick-here c n e, ne-eqb x c d) (picked-member (c + 1) n x rest)
-          | inr e ↦ rw (pick-past c n e) (picked-member (c + 1) n x rest)
-        ]
+  picked-member c (suc n) x k = elim (decide c x) [
+    | inl s ↦ rw (pick-here c n (rw (← s) at (k .passes)), eq-eqb x c (sym s))
+    | inr d ↦ elim (either (p c)) [
+      | inl e ↦ rw (pick-here c n e, ne-eqb x c (λ s. d (sym s))) (picked-member (c + 1) n x (picked-rest c n x d k))
+      | inr e ↦ rw (pick-past c n e) (picked-member (c + 1) n x (picked-rest c n x d k))
+    ]
   ]
 
 -- ---- Free blocks
@@ -139,3 +143,107 @@ module _ (g : Layout) (b : List ℕ) where
   pub free-member : (x : ℕ) → FreeBlock x → member x (free g b) ≡ true
   unfolding free unmet
   free-member x k = picked-member unmet 1 (blockCount g b - 2) x (free-picked x k)
+
+-- ---- Live blocks lie in 1 to B − 2
+
+-- no tree has block 0
+blocks-above : (W : ℕ) (b : List ℕ) (h k n : ℕ) → occ 0 (blocks W b h k n) ≡ 0
+unfolding blocks occ
+blocks-above W b zero zero n = refl
+blocks-above W b zero (suc k) zero = refl
+blocks-above W b zero (suc k) (suc n) = omega (arith, one-other 0 (suc k) (omega arith))
+blocks-above W b (suc h) zero n = refl
+blocks-above W b (suc h) (suc k) zero = refl
+blocks-above W b (suc h) (suc k) (suc n) = omega (
+  arith,
+  one-other 0 (suc k) (omega arith),
+  occ-joined 0 W (childBlocks W b h (suc k) (suc n)),
+  sum-zero W (λ j. occ 0 (childBlocks W b h (suc k) (suc n) j)) (λ j l. blocks-above W b h (cell W b (suc k) j / W) (suc n - j * span W h)),
+)
+
+-- what is counted is there
+one-is : (q x : ℕ) → 0 < one q x → q ≡ x
+one-is q x l = elim (decide q x) [ inl e ↦ e | inr d ↦ absurd (omega (arith, one-other q x d)) ]
+
+below-occ : (top q : ℕ) (l : List ℕ) → below top l ≡ true → 0 < occ q l → q < top
+unfolding all occ
+below-occ top q [] e o = absurd (omega arith)
+below-occ top q (x ∷ xs) e o = elim (decide q x) [
+  | inl s ↦ rw s (ltb-true x top (true-left (ltb x top) (below top xs) e))
+  | inr d ↦ below-occ top q xs (true-right (ltb x top) (below top xs) e) (omega (arith, one-other q x d))
+]
+
+module _ (g : Layout) (b : List ℕ) (a : Facts g b) where
+  file-range : (f q : ℕ) → f < files g → 0 < occ q (fileBlocks g b f) → Ranged g b q
+  unfolding fileBlocks rootBlocks
+  file-range f q l o =
+      let W : ℕ = g .words in
+      let h : ℕ = root g b f % W in
+      let k : ℕ = root g b f / W in
+      let top : ℕ = blockCount g b - 1 in
+      let s : sound W b top h k (size g b f) ≡ true = is-true (sound W b top h k (size g b f)) (a .tree f l) in (
+        elim (decide q 0) [ inl e ↦ absurd (omega (arith, blocks-above W b h k (size g b f), rw e at o)) | inr d ↦ omega arith ],
+        below-occ top q (blocks W b h k (size g b f)) (sound-below W b top h k (size g b f) s) o,
+      )
+
+  pub live-range : (q : ℕ) → 0 < occ q (liveBlocks g b) → Ranged g b q
+  live-range q o = elim (decide q (inodeBlock g b)) [
+    | inl e ↦ rw e (a .inode)
+    | inr d ↦ elim (split (sum (g .leaves) (λ l. one q (leaf g b l))) 0) [
+      | inl z ↦
+          let f = sum-some (files g) (λ f. occ q (fileBlocks g b f)) (omega (arith, one-other q (inodeBlock g b) d, occ-live g b q)) in
+          file-range (f .0) q (f .1) (f .2)
+      | inr s ↦
+          let l = sum-some (g .leaves) (λ l. one q (leaf g b l)) s in
+          rw (one-is q (leaf g b (l .0)) (l .2)) (a .leaf-in (l .0) (l .1))
+    ]
+  ]
+
+-- ---- How many there are
+
+pick-all : (p : ℕ → Bool) → ((k : ℕ) → p k ≡ true) → (c n : ℕ) → length (pickFrom c n p) ≡ n
+pick-all p e c zero = rw (pick-none p c)
+pick-all p e c (suc n) = rw (pick-here p c n (e c)) (omega (arith, pick-all p e (c + 1) n))
+
+pick-cong : (p r : ℕ → Bool) (c n : ℕ) → ((k : ℕ) → c ≤ k → r k ≡ p k) → pickFrom c n r ≡ pickFrom c n p
+unfolding pickFrom
+pick-cong p r c zero e = refl
+pick-cong p r c (suc n) e = rw (e c (omega arith), pick-cong p r (c + 1) n (λ k l. e k (omega arith)))
+
+-- with one number passed over, one less is picked
+pick-less : (p r : ℕ → Bool) (c n x : ℕ) → Picked c n p x → r x ≡ false → ((k : ℕ) → k ≢ x → r k ≡ p k) → suc (length (pickFrom c n r)) ≡ length (pickFrom c n p)
+pick-less p r c zero x k z e = absurd (omega (arith, k .from, k .below))
+pick-less p r c (suc n) x k z e = elim (decide c x) [
+  | inl s ↦ rw (pick-here p c n (rw (← s) at (k .passes)), pick-past r c n (rw (← s) at z), pick-cong p r (c + 1) n (λ i l. e i (omega arith)))
+  | inr d ↦
+      let less : suc (length (pickFrom (c + 1) n r)) ≡ length (pickFrom (c + 1) n p) = pick-less p r (c + 1) n x (picked-rest p c n x d k) z e in
+      elim (either (p c)) [
+        | inl y ↦ rw (pick-here p c n y, pick-here r c n (e c d ∙ y)) (ap suc less)
+        | inr y ↦ rw (pick-past p c n y, pick-past r c n (e c d ∙ y)) less
+      ]
+]
+
+-- n numbers are those of a list that lie among them, and the others
+others-count : (c n : ℕ) (l : List ℕ) → ((q : ℕ) → occ q l ≤ 1) → ((q : ℕ) → 0 < occ q l → (c ≤ q) × (q < c + n)) → length l + length (pickFrom c n (λ k. not (member k l))) ≡ n
+unfolding member occ
+others-count c n [] once range = omega (arith, pick-all (λ k. true) (λ k. refl) c n)
+others-count c n (x ∷ xs) once range =
+    let absent : member x xs ≡ false = member-none x xs (omega (arith, once x, one-same x)) in
+    let there = range x (omega (arith, one-same x)) in
+    omega (
+      arith,
+      others-count c n xs (λ q. omega (arith, once q)) (λ q o. range q (omega arith)),
+      pick-less (λ k. not (member k xs)) (λ k. not (member k (x ∷ xs))) c n x
+          (record { from = there .0; below = there .1; passes = rw absent }) (rw (eq-eqb x x refl)) (λ k d. rw (ne-eqb k x d)),
+    )
+
+-- the live blocks, the free ones, block 0 and the trailer are all
+pub census : (g : Layout) → Fits g → (b : List ℕ) → T (accepted g b) → length (liveBlocks g b) + length (free g b) + 2 ≡ blockCount g b
+unfolding free
+census g fit b t =
+    let a : Facts g b = facts g fit b t in
+    omega (
+      arith,
+      others-count 1 (blockCount g b - 2) (liveBlocks g b) (a .once) (λ q o. let r = live-range g b a q o in (r .0, omega (arith, r .0, r .1))),
+      a .sizes .blocks-least,
+    )

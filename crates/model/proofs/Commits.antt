@@ -17,10 +17,10 @@ use Rattle.model.proofs.Cases.{split, decide, and-both, tabulate-cong}
 use Rattle.model.proofs.Sums.{sum-le, sum-add, only, only-same, only-other, sum-only}
 use Rattle.model.proofs.Counting.{one, occ}
 use Rattle.model.proofs.Agree.{byteAt, agree, seen-live, seen-dead, blocks-none, byteAt-past}
-use Rattle.model.proofs.Splice.{splice-right}
 use Rattle.model.proofs.Changed.{Changed}
+use Rattle.model.proofs.Grown.{Grown}
 use Rattle.model.proofs.Shown.{rootByte, root-byte-in, root-byte-past, contents-bytes, root-blocks, root-byte, root-sound, words-pos, occ-live}
-use Rattle.model.proofs.Accepting.{Accepted, accepted-parts, parts-accepted, Facts, facts}
+use Rattle.model.proofs.Accepting.{Accepted, accepted-parts, parts-accepted, file-parts, root-sound-parts}
 
 -- file f is sound on b₂, reads `wanted`, and has its blocks of b and at most the extra ones
 pub record FileCommit (g : Layout) (b b₂ : List ℕ) (f : ℕ) (wanted : List ℕ) (extra : ℕ → ℕ) : Type 0 where
@@ -120,7 +120,7 @@ module _ (g : Layout) (fit : Fits g) (b b₂ : List ℕ) (len : length b ≡ len
     pub now : size g b₂ f ≡ m
     pub low : h ≤ g .height
     pub most : m ≤ greatest g
-    pub reach : o + length new ≤ span (g .words) h
+    pub past : (i : ℕ) → span (g .words) h ≤ i → i < m → splice o new 0 i ≡ 0
     pub change : Changed (g .words) b b₂ (blockCount g b - 1) h k (root g b₂ f / g .words) (size g b f) m o new extra
 
   -- the bytes that it then has
@@ -132,11 +132,12 @@ module _ (g : Layout) (fit : Fits g) (b b₂ : List ℕ) (len : length b ≡ len
     written-byte i l =
         let n : ℕ = size g b f in
         elim (split (span (g .words) h) i) [
-          | inl past ↦ root-byte-past (g .words) b₂ (root g b₂ f) m i (rw (w .height) past)
-              ∙ sym (splice-right o new _ i (omega (arith, w .reach)) ∙ elim (split n i) [
+          | inl past ↦
+              let none : seen (n - i) (rootByte (g .words) b (root g b f) n i) ≡ 0 = elim (split n i) [
                 | inl z ↦ seen-dead (n - i) _ (omega arith)
                 | inr z ↦ seen-live (n - i) _ (omega arith) ∙ root-byte-past (g .words) b (root g b f) n i (rw (← (w .old (omega arith) .0)) past)
-              ])
+              ] in
+              root-byte-past (g .words) b₂ (root g b₂ f) m i (rw (w .height) past) ∙ sym (ap (λ (x : ℕ). splice o new x i) none ∙ w .past i past l)
           | inr l′ ↦
               let now : byteAt (g .words) b₂ (root g b₂ f % g .words) (root g b₂ f / g .words) m i ≡ splice o new (byteAt (g .words) b h k n i) i = rw (w .height) (w .change .bytes i l′ l) in
               root-byte-in (g .words) b₂ (root g b₂ f) m i (rw (w .height) l′) ∙ now ∙ ap (λ (x : ℕ). splice o new x i) (had-byte h k i (w .old) l′)
@@ -150,6 +151,22 @@ module _ (g : Layout) (fit : Fits g) (b b₂ : List ℕ) (len : length b ≡ len
       reads = rw (contents-bytes g pos b₂ f, w .now) (tabulate-cong m _ _ written-byte);
       counts = λ q. rw (w .height, w .now) (omega (arith, w .change .counts q, ap (occ q) (had-blocks h k (w .old))));
     }
+
+  -- a file whose tree is grown
+  pub grown-commit : (h′ : ℕ) (extra : ℕ → ℕ) → 0 < size g b f → size g b f ≡ size g b₂ f → root g b₂ f % g .words ≡ h′ → h′ ≤ g .height
+      → Grown (g .words) b b₂ (blockCount g b - 1) (root g b f % g .words) (root g b f / g .words) h′ (root g b₂ f / g .words) (size g b f) extra
+      → T (fileSound g b f) → FileCommit g b b₂ f (contents g b f) extra
+  unfolding fileSound fileBlocks rootBlocks rootByte
+  grown-commit h′ extra live sizes height low w t =
+      let n : ℕ = size g b f in
+      let old = file-parts g b f t in
+      record {
+        sound = rw (← sizes, ← count-same) (and-both (leb n (greatest g)) (rootSound (g .words) b₂ (g .height) (blockCount g b - 1) (root g b₂ f) n) (le→leb n (greatest g) (old .0))
+            (root-sound-of (g .height) (blockCount g b - 1) (root g b₂ f) n (rw height low)
+            (rw height (w .fine (root-sound-parts g b (g .height) (blockCount g b - 1) (root g b f) n live (old .1) .1)))));
+        reads = rw (contents-bytes g pos b f, contents-bytes g pos b₂ f, ← sizes) (tabulate-cong n _ _ (λ i l. rw height (w .bytes i)));
+        counts = λ q. rw (← sizes, height) (w .counts q);
+      }
 
 -- ---- One file
 

@@ -45,7 +45,7 @@ counted g fit b ok =
     }
 
 -- boards of one length have as many blocks
-count-same : (g : Layout) (b b′ : List ℕ) → length b′ ≡ length b → blockCount g b′ ≡ blockCount g b
+pub count-same : (g : Layout) (b b′ : List ℕ) → length b′ ≡ length b → blockCount g b′ ≡ blockCount g b
 unfolding blockCount
 count-same g b b′ e = ap (λ (x : ℕ). x / g .words) e
 
@@ -160,24 +160,27 @@ step-epochs [] c l = absurd (omega arith)
 step-epochs (s ∷ ss) c l = refl
 
 -- the stores of the plan: word 0 of the trailer becomes 0, its word i + 1 is stored, and word 0 commits
-abbrev clears : Layout → List ℕ → Store
+abbrev pub clears : Layout → List ℕ → Store
 clears g b = store (trailerAddress g b 0) 0
 
-abbrev trailerStore : Layout → List ℕ → ℕ → Store
+abbrev pub trailerStore : Layout → List ℕ → ℕ → Store
 trailerStore g b i = store (trailerAddress g b (suc i)) (trailerWord g (blockCount g b) (suc i))
 
-abbrev commits : Layout → List ℕ → Store
+abbrev pub commits : Layout → List ℕ → Store
 commits g b = store (trailerAddress g b 0) (g .words + 1)
 
 -- the middle epoch: pages, then trailer words
-pages : Layout → List Store
+unfoldable pub pages : Layout → List Store
 pages g = stored (g .words) (λ c. c) (formatPages g) 1
 
-filling : Layout → List ℕ → List Store
-unfolding pages
+unfoldable pub filling : Layout → List ℕ → List Store
 filling g b = pages g ++ trailerStores g b
 
-length-pages : (g : Layout) → length (formatPages g) ≡ suc (g .leaves)
+-- the three epochs
+abbrev pub formatEpochs : Layout → List ℕ → List (List Store)
+formatEpochs g b = (clears g b ∷ []) ∷ filling g b ∷ (commits g b ∷ []) ∷ []
+
+pub length-pages : (g : Layout) → length (formatPages g) ≡ suc (g .leaves)
 unfolding formatPages
 length-pages g = ap suc (length-replicate {A = Page} (g .leaves) (λ j. 0))
 
@@ -196,13 +199,20 @@ module _ (g : Layout) (fit : Fits g) (b : List ℕ) where
       )
       )
 
-  filling-some : 0 < length (filling g b)
+  pub filling-some : 0 < length (filling g b)
   filling-some = omega (arith, length-filling, fit .trailer-fits, mul-add (g .words) (g .leaves) 2)
 
-  -- the epochs of the plan
-  format-epochs : planEpochs (formatPlan g b .steps) ≡ (clears g b ∷ []) ∷ filling g b ∷ (commits g b ∷ []) ∷ []
+  pub format-epochs : planEpochs (formatPlan g b .steps) ≡ formatEpochs g b
   unfolding formatPlan plan step planEpochs stepEpochs filling pages
   format-epochs = ap (λ (r : List (List Store)). (clears g b ∷ []) ∷ (r ++ [])) (step-epochs (filling g b) (commits g b) filling-some)
+
+  -- the middle epoch's stores go to the first blocks and to the trailer past word 0
+  pub filling-goes : (P : ℕ → Type 0) → ((k j : ℕ) → 0 < k → k < 15 → j < g .words → P (g .words * k + j)) → ((j : ℕ) → suc j < g .words → P (trailerAddress g b (suc j)))
+      → All (λ s. P (s .at)) (filling g b)
+  unfolding filling pages trailerStores store
+  filling-goes P p q = all-append (λ s. P (s .at)) (pages g) (trailerStores g b)
+      (stored-blocks (g .words) (λ c. c) P (formatPages g) 1 (λ k j u v l. p k j (omega arith) (omega (arith, length-pages g, fit .format-fits)) l))
+      (all-tabulate (λ s. P (s .at)) (g .words - 1) (trailerStore g b) (λ j l. q j (omega arith)))
 
   -- *Its plan has 83 pairs*
   pub format-pairs : length (pairs (formatPlan g b)) ≡ g .words * (g .leaves + 2) + 3
@@ -233,7 +243,7 @@ module _ (g : Layout) (fit : Fits g) (b : List ℕ) (ok : T (wordCountSound g b)
   on-board : (k j : ℕ) → k < blockCount g b → j < g .words → g .words * k + j < length b
   on-board k j u l = omega (arith, size-of .whole, block-on (g .words) k (blockCount g b) u)
 
-  trailer-on : (j : ℕ) → j < g .words → trailerAddress g b j < length b
+  pub trailer-on : (j : ℕ) → j < g .words → trailerAddress g b j < length b
   unfolding trailerAddress
   trailer-on j l = on-board (blockCount g b - 1) j (omega (arith, size-of .blocks-least)) l
 
@@ -313,19 +323,18 @@ module _ (g : Layout) (fit : Fits g) (b : List ℕ) (ok : T (wordCountSound g b)
   below : (x : ℕ) → x < length b → x ≢ 2 ^ 64 - 1
   below x l = omega (arith, size-of .below)
 
-  filling-plain : Plain (filling g b)
-  unfolding filling pages trailerStores store
-  filling-plain = all-append (λ s. s .at ≢ 2 ^ 64 - 1) (pages g) (trailerStores g b)
-      (stored-blocks (g .words) (λ c. c) (λ x. x ≢ 2 ^ 64 - 1) (formatPages g) 1 (λ i j u v l. below (g .words * i + j) (on-board i j (omega (arith, length-pages g, fit .format-fits, size-of .blocks-least)) l)))
-      (all-tabulate (λ s. s .at ≢ 2 ^ 64 - 1) (g .words - 1) (trailerStore g b)
-      (λ i m. below (trailerAddress g b (suc i)) (trailer-on (suc i) (omega arith))))
-
-  format-stores : stores (pairs (formatPlan g b)) ≡ clears g b ∷ (filling g b ++ (commits g b ∷ []))
-  unfolding pairs concat All store
-  format-stores =
+  pub format-plain : All Plain (formatEpochs g b)
+  unfolding All store
+  format-plain =
       let first : trailerAddress g b 0 ≢ 2 ^ 64 - 1 = below (trailerAddress g b 0) (trailer-on 0 (omega (arith, fit .trailer-fits))) in
-      rw (format-epochs g fit b) (stores-fenced ((clears g b ∷ []) ∷ filling g b ∷ (commits g b ∷ []) ∷ [])
-      ((first, tt), (filling-plain, ((first, tt), tt))))
+      let middle : Plain (filling g b) = filling-goes g fit b (λ x. x ≢ 2 ^ 64 - 1)
+      (λ k j u v l. below (g .words * k + j) (on-board k j (omega (arith, size-of .blocks-least)) l))
+      (λ j l. below (trailerAddress g b (suc j)) (trailer-on (suc j) l)) in
+      ((first, tt), (middle, ((first, tt), tt)))
+
+  pub format-stores : stores (pairs (formatPlan g b)) ≡ clears g b ∷ (filling g b ++ (commits g b ∷ []))
+  unfolding pairs concat
+  format-stores = rw (format-epochs g fit b) (stores-fenced (formatEpochs g b) format-plain)
 
   -- format's stores, all performed
   performed-done : performed b (stores (pairs (formatPlan g b))) ≡ done

@@ -1,14 +1,14 @@
 -- Whole boards: what is visible of all files. Boards on which that is the same show the same.
 use mathlib.Core.Path.{_≡_, refl, sym, ap, ap₂, _∙_}
 use mathlib.Core.Logic.{inl, inr}
-use mathlib.Core.Bool.{Bool, not, cond, _&&_}
+use mathlib.Core.Bool.{Bool, not, _&&_}
 use mathlib.Core.List.{List, _∷_, _++_}
 use Prim.Native.Nat.{ℕ, zero, suc, _+_, _-_, _*_, _/_, _%_, _^_, _≤_, _<_}
 use native.Mathlib.Omega.{arith}
 use native.Mathlib.Nat.{mod-lt, mod-eq-of-lt, zero-div, zero-mod, div-add-mod', div-lt-iff-lt-mul}
 use lib.ListN.{length, getD}
 use lib.Arith.{digits-mod, mod-mul}
-use lib.Dec.{T, leb, ltb, eqb}
+use lib.Dec.{T, leb, eqb}
 use borrow.Author.Tests.{lt-ltb, le-ltb}
 use Rattle.model.specs.declared.WalkEnd.the-variants.{Hole}
 use Rattle.model.specs.Lists.{tabulate, joined, every, sum, pickFrom, member, distinct}
@@ -24,7 +24,7 @@ use Rattle.model.proofs.Counting.{one, occ, one-same, occ-append, occ-j
 use Rattle.model.proofs.Spans.{child, span-pos}
 use Rattle.model.proofs.Trees.{walk-dead}
 use Rattle.model.proofs.Walks.{block-pos, spanned-pos, span-blocks}
-use Rattle.model.proofs.Agree.{byteAt, agree, seen-live, agree-blocks, agree-sound, agree-byte, blocks-none, frame}
+use Rattle.model.proofs.Agree.{byteAt, spanByte, agree, seen-live, span-byte-in, span-byte-past, agree-blocks, agree-sound, agree-span-byte, blocks-none, frame}
 
 -- ---- what is seen of a byte is where the walk to it ends
 
@@ -62,15 +62,15 @@ module _ (W : ℕ) (pos : 0 < W) where
 
 -- byte i of a file with root word r and size n
 unfoldable pub rootByte : ℕ → List ℕ → ℕ → ℕ → ℕ → ℕ
-rootByte W b r n i = cond (ltb i (span W (r % W))) (byteAt W b (r % W) (r / W) n i) 0
+rootByte W b r n i = spanByte W b (r % W) (r / W) n i
 
 pub root-byte-in : (W : ℕ) (b : List ℕ) (r n i : ℕ) → i < span W (r % W) → rootByte W b r n i ≡ byteAt W b (r % W) (r / W) n i
 unfolding rootByte
-root-byte-in W b r n i l = rw (lt-ltb i (span W (r % W)) l)
+root-byte-in W b r n i l = span-byte-in W b (r % W) (r / W) n i l
 
 pub root-byte-past : (W : ℕ) (b : List ℕ) (r n i : ℕ) → span W (r % W) ≤ i → rootByte W b r n i ≡ 0
 unfolding rootByte
-root-byte-past W b r n i l = rw (le-ltb i (span W (r % W)) l)
+root-byte-past W b r n i l = span-byte-past W b (r % W) (r / W) n i l
 
 root-walk-byte : (W : ℕ) → 0 < W → (b : List ℕ) (r n i : ℕ) → i < n → shown W b (rootWalk W b r n i) (i % span W 0) ≡ rootByte W b r n i
 unfolding rootWalk shown
@@ -94,10 +94,8 @@ module _ (W : ℕ) (pos : 0 < W) (b b′ : List ℕ) (r r′ n : ℕ) (e : 0 < n
   ]
 
   pub root-byte : (i : ℕ) → i < n → rootByte W b r n i ≡ rootByte W b′ r′ n i
-  root-byte i l = rw (← (e (omega arith))) (elim (split (span W (r % W)) i) [
-    | inl z ↦ root-byte-past W b r n i z ∙ sym (root-byte-past W b′ r n i z)
-    | inr z ↦ root-byte-in W b r n i z ∙ agree-byte W pos b b′ (r % W) (r / W) n i z a ∙ sym (root-byte-in W b′ r n i z)
-  ])
+  unfolding rootByte
+  root-byte i l = rw (← (e (omega arith))) (agree-span-byte W pos b b′ (r % W) (r / W) n i a)
 
   dead-walk : (c : List ℕ) (x i : ℕ) → n ≡ 0 → rootWalk W c x n i ≡ Hole
   unfolding rootWalk

@@ -1,0 +1,366 @@
+-- Block 0, the boot block: what it holds decides no answer, no plan and no slice.
+use mathlib.Core.Path.{_≡_, refl, sym, subst, _∙_}
+use mathlib.Core.Logic.{_≢_, inl, inr}
+use mathlib.Core.Bool.{Bool, true, false, not, _&&_, _||_, or-true, false≢true}
+use mathlib.Core.List.{List, [], _∷_, _++_, append-nil, append-assoc}
+use Prim.Native.Nat.{ℕ, zero, suc, _+_, _-_, _*_, _/_, _%_, _≤_, _<_, min}
+use native.Mathlib.Omega.{arith}
+use native.Mathlib.Nat.{div-lt-iff-lt-mul, mod-lt}
+use lib.ListN.{length, getD, take, drop}
+use lib.Dec.{leb, ltb, eqb}
+use borrow.Author.Tests.{leb-false, ltb-true, eq-eqb, not-true, not-false}
+use Rattle.model.specs.declared.Fault.{Fault}
+use Rattle.model.specs.declared.Fault.the-variants.{WordCount, Trailer, Damaged, FileNumber, Offset, End, FreeBlocks, PairCount, PlanLength, Address}
+use Rattle.model.specs.declared.Answer.the-variants.{Refused}
+use Rattle.model.specs.Lists.{tabulate, joined, every, all, consIf, pickFrom, member, distinct}
+use Rattle.model.specs.Layout.{Layout, Fits, files}
+use Rattle.model.specs.Board.{trailerWord, greatest, blockCount, trailer, inodeBlock, inodePointer, leaf, size, contents, fileBlocks, liveBlocks, free, inRange, wordCountSound, trailerSound, leafSound, fileSound, treesSound}
+use Rattle.model.specs.Store.{Store, store, isBarrier, paired, laid}
+use Rattle.model.specs.Plan.{Plan, plan, step, pairs}
+use Rattle.model.specs.Fresh.{stored}
+use Rattle.model.specs.Change.{writePlan, lengthPlan}
+use Rattle.model.specs.Format.{formatPages, trailerAddress, trailerStores, formatPlan}
+use Rattle.model.specs.Answers.{Faults, answered, unlessRefused}
+use Rattle.model.specs.Calls.{wordCountFault, boardFaults, fileFaults, checkAnswer, freeCountAnswer, sizeAnswer, readCount, readAnswer, readBuffer, planned, lowest, writeFaults, write, setLength, format, performFaults, performAnswer}
+use Rattle.model.specs.Cut.{Change, writing, lengthTo, called}
+use Rattle.model.specs.Claims.{SameCalls, BootRule}
+use Rattle.model.proofs.Cases.{decide, true-left, true-right}
+use Rattle.model.proofs.Formatted.{counted}
+use Rattle.model.proofs.Alike.{Alike, dropped-alike, Found, count-alike, trailer-alike, inode-alike, pointer-alike, leaf-alike, size-alike, file-blocks-alike, file-sound-alike, contents-alike}
+use Rattle.model.proofs.BootPlans.{length-plan-alike, Clear, write-plan-alike}
+
+-- ---- Tests and lists
+
+-- the second tests need agree only where the first hold
+and-alike : (s s′ r r′ : Bool) → s ≡ s′ → (s ≡ true → r ≡ r′) → (s && r) ≡ (s′ && r′)
+and-alike true s′ r r′ e f = λ t. e t && f refl t
+and-alike false s′ r r′ e f = rw (← e)
+
+every-cong : (n : ℕ) (p q : ℕ → Bool) → ((j : ℕ) → j < n → p j ≡ q j) → every n p ≡ every n q
+unfolding every
+every-cong zero p q e = refl
+every-cong (suc n) p q e = λ t. every-cong n p q (λ j l. e j (omega arith)) t && e n (omega arith) t
+
+every-at : (n : ℕ) (p : ℕ → Bool) → every n p ≡ true → (j : ℕ) → j < n → p j ≡ true
+unfolding every
+every-at zero p e j l = absurd (omega arith)
+every-at (suc n) p e j l = elim (decide j n) [
+  | inl z ↦ rw z (true-right (every n p) (p n) e)
+  | inr z ↦ every-at n p (true-left (every n p) (p n) e) j (omega arith)
+]
+
+joined-cong : {A : Type 0} (n : ℕ) (f g : ℕ → List A) → ((j : ℕ) → j < n → f j ≡ g j) → joined n f ≡ joined n g
+unfolding joined
+joined-cong zero f g e = refl
+joined-cong (suc n) f g e = λ t. joined-cong n f g (λ j l. e j (omega arith)) t ++ e n (omega arith) t
+
+-- what is picked is one of the numbers looked at, or 0 where there are too few
+picked : (P : ℕ → Type 0) (p : ℕ → Bool) → P 0 → (c n : ℕ) → ((x : ℕ) → c ≤ x → x < c + n → p x ≡ true → P x) → (i : ℕ) → P (getD (pickFrom c n p) i 0)
+unfolding pickFrom consIf
+picked P p none c zero each i = none
+picked P p none c (suc n) each i = by (p c) refl (picked P p none (c + 1) n (λ x l u e. each x (omega arith) (omega arith) e)) i
+  where
+    by : (t : Bool) → p c ≡ t → ((k : ℕ) → P (getD (pickFrom (c + 1) n p) k 0)) → (k : ℕ) → P (getD (consIf t c (pickFrom (c + 1) n p)) k 0)
+    by true e rest zero = each c (omega arith) (omega arith) e
+    by true e rest (suc k) = rest k
+    by false e rest k = rest k
+
+member-left : (x : ℕ) (xs ys : List ℕ) → member x xs ≡ true → member x (xs ++ ys) ≡ true
+unfolding member
+member-left x [] ys e = absurd (false≢true e)
+member-left x (y ∷ xs) ys e = by (eqb x y) e (member-left x xs ys)
+  where
+    by : (t : Bool) → (t || member x xs) ≡ true → (member x xs ≡ true → member x (xs ++ ys) ≡ true) → (t || member x (xs ++ ys)) ≡ true
+    by true e rest = refl
+    by false e rest = rest e
+
+member-last : (x : ℕ) (xs : List ℕ) → member x (xs ++ (x ∷ [])) ≡ true
+unfolding member
+member-last x [] = rw (eq-eqb x x refl)
+member-last x (y ∷ xs) = rw (member-last x xs, or-true)
+
+member-tabulate : (n : ℕ) (f : ℕ → ℕ) (j : ℕ) → j < n → member (f j) (tabulate n f) ≡ true
+unfolding tabulate
+member-tabulate zero f j l = absurd (omega arith)
+member-tabulate (suc n) f j l = elim (decide j n) [
+  | inl e ↦ rw e (member-last (f n) (tabulate n f))
+  | inr d ↦ member-left (f j) (tabulate n f) (f n ∷ []) (member-tabulate n f j (omega arith))
+]
+
+-- ---- Lists of faults
+
+-- they end in refusal x, whatever is asked after them
+abbrev Turns : Fault → Faults → Type 0
+Turns x fs = (more : Faults) (n : ℕ) → answered (fs ++ more) n ≡ Refused x
+
+planned-turned : (x : Fault) (fs more : Faults) (ss : List Store) (slice : List ℕ) → Turns x fs → planned (fs ++ more) ss slice ≡ record { answer = Refused x; slice = slice }
+unfolding planned unlessRefused
+planned-turned x fs more ss slice p =
+    let last : Faults = (PlanLength, ltb (length slice) (2 * length ss)) ∷ [] in
+    let e : answered ((fs ++ more) ++ last) (length ss) ≡ Refused x = rw (append-assoc fs more last) (p (more ++ last) (length ss)) in
+    λ t. record { answer = e t; slice = unlessRefused (e t) (laid slice 0 ss) slice }
+
+-- the lists of two boards: the same refusal for both, or they are equal and P holds
+data Verdict (fs fs′ : Faults) (P : Type 0) : Type 0 where
+  turned : (x : Fault) → Turns x fs → Turns x fs′ → Verdict fs fs′ P
+  passed : fs ≡ fs′ → P → Verdict fs fs′ P
+
+module _ {P : Type 0} where
+  asked : (x : Fault) (t t′ : Bool) (fs fs′ : Faults) → t ≡ t′ → (t ≡ false → Verdict fs fs′ P) → Verdict ((x, t) ∷ fs) ((x, t′) ∷ fs′) P
+  unfolding answered
+  asked x t t′ fs fs′ e rest = subst (λ (u : Bool). Verdict ((x, t) ∷ fs) ((x, u) ∷ fs′) P) e (by t rest)
+    where
+      by : (t : Bool) → (t ≡ false → Verdict fs fs′ P) → Verdict ((x, t) ∷ fs) ((x, t) ∷ fs′) P
+      by true rest = turned x (λ more n. refl) (λ more n. refl)
+      by false rest = elim (rest refl) [
+        | turned y p q ↦ turned y p q
+        | passed e p ↦ passed (λ t. (x, false) ∷ e t) p
+      ]
+
+  answers-alike : (fs fs′ : Faults) → Verdict fs fs′ P → (n n′ : ℕ) → (P → n ≡ n′) → answered fs n ≡ answered fs′ n′
+  answers-alike fs fs′ (turned x p q) n n′ e = (rw append-nil at (p [] n)) ∙ sym (rw append-nil at (q [] n′))
+  answers-alike fs fs′ (passed z p) n n′ e = λ t. answered (z t) (e p t)
+
+  -- what a call leaves
+  left-alike : {A : Type 0} (fs fs′ : Faults) → Verdict fs fs′ P → (n n′ : ℕ) (a a′ z : A) → (P → n ≡ n′) → (P → a ≡ a′)
+      → unlessRefused (answered fs n) a z ≡ unlessRefused (answered fs′ n′) a′ z
+  unfolding unlessRefused
+  left-alike fs fs′ (turned x p q) n n′ a a′ z e d = rw (rw append-nil at (p [] n), rw append-nil at (q [] n′))
+  left-alike fs fs′ (passed y p) n n′ a a′ z e d = λ t. unlessRefused (answered (y t) (e p t)) (d p t) z
+
+  planned-alike : (fs fs′ : Faults) → Verdict fs fs′ P → (more more′ : Faults) (ss ss′ : List Store) (slice : List ℕ) → (P → more ≡ more′) → (P → ss ≡ ss′)
+      → planned (fs ++ more) ss slice ≡ planned (fs′ ++ more′) ss′ slice
+  planned-alike fs fs′ (turned x p q) more more′ ss ss′ slice e d = planned-turned x fs more ss slice p ∙ sym (planned-turned x fs′ more′ ss′ slice q)
+  planned-alike fs fs′ (passed z p) more more′ ss ss′ slice e d = λ t. planned (z t ++ e p t) (d p t) slice
+
+-- ---- Boards
+
+range-parts : (g : Layout) (b : List ℕ) (k : ℕ) → inRange g b k ≡ true → (0 < k) × (k < blockCount g b - 1)
+unfolding inRange
+range-parts g b k e =
+    let low : Bool = ltb 0 k in
+    let high : Bool = ltb k (blockCount g b - 1) in
+    (ltb-true 0 k (true-left low high e), ltb-true k (blockCount g b - 1) (true-right low high e))
+
+trailer-off : (g : Layout) → Fits g → (b : List ℕ) → wordCountSound g b ≡ true → 0 < blockCount g b - 1
+trailer-off g fit b e = omega (arith, counted g fit b (rw e tt) .blocks-least)
+
+inode-off : (g : Layout) (b : List ℕ) → trailerSound g b ≡ true → 0 < inodeBlock g b
+unfolding trailerSound
+inode-off g b e =
+    let m : Bool = eqb (trailer g b 0 % g .words) 1 in
+    let r : Bool = inRange g b (inodeBlock g b) in
+    let w : Bool = every (g .words - 1) (λ j. eqb (trailer g b (suc j)) (trailerWord g (blockCount g b) (suc j))) in
+    range-parts g b (inodeBlock g b) (true-right m r (true-left (m && r) w e)) .0
+
+leaves-off : (g : Layout) (b : List ℕ) → every (g .leaves) (leafSound g b) ≡ true → (l : ℕ) → l < g .leaves → (0 < leaf g b l) × (leaf g b l < blockCount g b - 1)
+unfolding leafSound
+leaves-off g b e l h =
+    range-parts g b (leaf g b l) (true-right (eqb (inodePointer g b l % g .words) 0) (inRange g b (leaf g b l)) (every-at (g .leaves) (leafSound g b) e l h))
+
+-- a board on which every file's inode is found
+record Rooted (g : Layout) (b : List ℕ) : Type 0 where
+  trailer-there : 0 < blockCount g b - 1
+  inode-there : 0 < inodeBlock g b
+  leaves-there : (l : ℕ) → l < g .leaves → (0 < leaf g b l) × (leaf g b l < blockCount g b - 1)
+
+leaf-number : (g : Layout) → Fits g → (f : ℕ) → f < files g → f / g .inodes < g .leaves
+unfolding files
+leaf-number g fit f l = div-lt-iff-lt-mul (fit .inodes-some) .1 l
+
+file-found : (g : Layout) → Fits g → (b : List ℕ) → Rooted g b → (f : ℕ) → f < files g → Found g b f
+file-found g fit b r f l =
+    record { trailer-there = r .trailer-there; inode-there = r .inode-there; leaf-there = r .leaves-there (f / g .inodes) (leaf-number g fit f l) .0 }
+
+-- and no block is reached twice
+record Whole (g : Layout) (b : List ℕ) : Type 0 where
+  rooted : Rooted g b
+  once : distinct (liveBlocks g b) ≡ true
+
+whole : (g : Layout) (b : List ℕ) → 0 < blockCount g b - 1 → 0 < inodeBlock g b → treesSound g b ≡ true → Whole g b
+unfolding treesSound
+whole g b there inode e =
+    let l : Bool = every (g .leaves) (leafSound g b) in
+    let f : Bool = every (files g) (fileSound g b) in
+    let d : Bool = distinct (liveBlocks g b) in
+    record {
+      rooted = record { trailer-there = there; inode-there = inode; leaves-there = leaves-off g b (true-left l f (true-left (l && f) d e)) };
+      once = true-right (l && f) d e;
+    }
+
+-- there, growth leaves the trailer and the inode pointer block alone
+module _ (g : Layout) (b : List ℕ) (w : Whole g b) where
+  leaf-other : (l : ℕ) → l < g .leaves → inodeBlock g b ≢ leaf g b l
+  unfolding liveBlocks distinct
+  leaf-other l h e =
+      let k : ℕ = inodeBlock g b in
+      let leaves : List ℕ = tabulate (g .leaves) (leaf g b) in
+      let rest : List ℕ = leaves ++ joined (files g) (fileBlocks g b) in
+      let out : member k rest ≡ false = not-true (member k rest) (true-left (not (member k rest)) (distinct rest) (w .once)) in
+      let there : member k rest ≡ true = rw e (member-left (leaf g b l) leaves (joined (files g) (fileBlocks g b)) (member-tabulate (g .leaves) (leaf g b) l h)) in
+      false≢true (sym out ∙ there)
+
+  inode-live : member (inodeBlock g b) (liveBlocks g b) ≡ true
+  unfolding liveBlocks member
+  inode-live = rw (eq-eqb (inodeBlock g b) (inodeBlock g b) refl)
+
+  lowest-trailer : (i : ℕ) → blockCount g b - 1 ≢ lowest g b i
+  unfolding lowest free
+  lowest-trailer = picked (λ x. blockCount g b - 1 ≢ x) (λ k. not (member k (liveBlocks g b))) (omega (arith, w .rooted .trailer-there)) 1 (blockCount g b - 2)
+      (λ x l u e. omega (arith, w .rooted .trailer-there))
+
+  lowest-inode : (i : ℕ) → inodeBlock g b ≢ lowest g b i
+  unfolding lowest free
+  lowest-inode = picked (λ x. inodeBlock g b ≢ x) (λ k. not (member k (liveBlocks g b))) (omega (arith, w .rooted .inode-there)) 1 (blockCount g b - 2)
+      (λ x l u e z. false≢true (sym (not-true (member x (liveBlocks g b)) e) ∙ rw (← z) inode-live))
+
+  write-clear : Fits g → (f : ℕ) → f < files g → Clear g (lowest g b) b f
+  write-clear fit f l =
+      let which : f / g .inodes < g .leaves = leaf-number g fit f l in
+      record {
+        found = file-found g fit b (w .rooted) f l;
+        trailer-stays = lowest-trailer;
+        trailer-leaf = omega (arith, w .rooted .leaves-there (f / g .inodes) which .1);
+        inode-stays = lowest-inode;
+        inode-leaf = leaf-other (f / g .inodes) which;
+        pointer-inside = omega (arith, which, fit .leaves-fit);
+        root-inside = omega (arith, mod-lt f (fit .inodes-some), fit .inodes-fit);
+      }
+
+-- ---- Two boards
+
+module _ (g : Layout) (fit : Fits g) {b b′ : List ℕ} (same : Alike (g .words) b b′) where
+  word-count-alike : wordCountSound g b ≡ wordCountSound g b′
+  unfolding wordCountSound
+  word-count-alike = λ t. let l : ℕ = same .lengths t in leb (16 * g .words) l && leb l (g .most * g .words) && eqb (l % g .words) 0
+
+  range-alike : (k k′ : ℕ) → k ≡ k′ → inRange g b k ≡ inRange g b′ k′
+  unfolding inRange
+  range-alike k k′ e = λ t. ltb 0 (e t) && ltb (e t) (count-alike g same t - 1)
+
+  trailer-sound-alike : 0 < blockCount g b - 1 → trailerSound g b ≡ trailerSound g b′
+  unfolding trailerSound
+  trailer-sound-alike there = λ t. eqb (trailer-alike g same there 0 t % g .words) 1 && range-alike (inodeBlock g b) (inodeBlock g b′) (inode-alike g same there) t
+      && every (g .words - 1) (λ j. eqb (trailer-alike g same there (suc j) t) (trailerWord g (count-alike g same t) (suc j)))
+
+  leaf-sound-alike : 0 < blockCount g b - 1 → 0 < inodeBlock g b → (l : ℕ) → leafSound g b l ≡ leafSound g b′ l
+  unfolding leafSound
+  leaf-sound-alike there inode l =
+      λ t. eqb (pointer-alike g same there inode l t % g .words) 0 && range-alike (leaf g b l) (leaf g b′ l) (leaf-alike g same there inode l) t
+
+  live-alike : Rooted g b → liveBlocks g b ≡ liveBlocks g b′
+  unfolding liveBlocks
+  live-alike r = λ t. inode-alike g same (r .trailer-there) t ∷ (tabulate (g .leaves) (λ l. leaf-alike g same (r .trailer-there) (r .inode-there) l t)
+      ++ joined-cong (files g) (fileBlocks g b) (fileBlocks g b′) (λ f l. file-blocks-alike g same (file-found g fit b r f l)) t)
+
+  trees-sound-alike : 0 < blockCount g b - 1 → 0 < inodeBlock g b → treesSound g b ≡ treesSound g b′
+  unfolding treesSound
+  trees-sound-alike there inode =
+      let l : Bool = every (g .leaves) (leafSound g b) in
+      let l′ : Bool = every (g .leaves) (leafSound g b′) in
+      let f : Bool = every (files g) (fileSound g b) in
+      let f′ : Bool = every (files g) (fileSound g b′) in
+      let rooted : l ≡ true → Rooted g b = λ e. record { trailer-there = there; inode-there = inode; leaves-there = leaves-off g b e } in
+      and-alike (l && f) (l′ && f′) (distinct (liveBlocks g b)) (distinct (liveBlocks g b′))
+      (and-alike l l′ f f′ (λ t. every (g .leaves) (λ j. leaf-sound-alike there inode j t))
+      (λ e. every-cong (files g) (fileSound g b) (fileSound g b′) (λ j u. file-sound-alike g same (file-found g fit b (rooted e) j u))))
+      (λ e t. distinct (live-alike (rooted (true-left l f e)) t))
+
+  -- both are refused for the same fault, or b has none
+  board-verdict : (P : Type 0) (more : Faults) → (Whole g b → Verdict more more P) → Verdict (boardFaults g b ++ more) (boardFaults g b′ ++ more) P
+  unfolding boardFaults wordCountFault
+  board-verdict P more rest =
+      let trailers : Bool → Fault × Bool = λ s. (Trailer, not s) in
+      let trees : Bool → Fault × Bool = λ s. (Damaged, not s) in
+      asked WordCount (not (wordCountSound g b)) (not (wordCountSound g b′))
+      (trailers (trailerSound g b) ∷ trees (treesSound g b) ∷ more) (trailers (trailerSound g b′) ∷ trees (treesSound g b′) ∷ more)
+      (λ t. not (word-count-alike t)) (λ c.
+      let there : 0 < blockCount g b - 1 = trailer-off g fit b (not-false (wordCountSound g b) c) in
+      asked Trailer (not (trailerSound g b)) (not (trailerSound g b′)) (trees (treesSound g b) ∷ more) (trees (treesSound g b′) ∷ more)
+      (λ t. not (trailer-sound-alike there t)) (λ r.
+      let inode : 0 < inodeBlock g b = inode-off g b (not-false (trailerSound g b) r) in
+      asked Damaged (not (treesSound g b)) (not (treesSound g b′)) more more
+      (λ t. not (trees-sound-alike there inode t)) (λ d. rest (whole g b there inode (not-false (treesSound g b) d)))))
+
+  boards : Verdict (boardFaults g b) (boardFaults g b′) (Whole g b)
+  unfolding boardFaults wordCountFault
+  boards = board-verdict (Whole g b) [] (λ w. passed refl w)
+
+  file-verdict : (f : ℕ) → Verdict (fileFaults g b f) (fileFaults g b′ f) (Whole g b × f < files g)
+  unfolding fileFaults
+  file-verdict f = board-verdict (Whole g b × f < files g) ((FileNumber, leb (files g) f) ∷ [])
+      (λ w. asked FileNumber (leb (files g) f) (leb (files g) f) [] [] refl (λ e. passed refl (w, leb-false (files g) f e)))
+
+  free-alike : Whole g b → free g b ≡ free g b′
+  unfolding free
+  free-alike w = λ t. pickFrom 1 (count-alike g same t - 2) (λ k. not (member k (live-alike (w .rooted) t)))
+
+  -- ---- Calls
+
+  module _ (f : ℕ) where
+    found : Whole g b × f < files g → Found g b f
+    found p = file-found g fit b (p .0 .rooted) f (p .1)
+
+    sizes-alike : Whole g b × f < files g → size g b f ≡ size g b′ f
+    sizes-alike p = size-alike g same (found p)
+
+    reads-alike : (o : ℕ) (out : List ℕ) → (readAnswer g b f o out ≡ readAnswer g b′ f o out) × (readBuffer g b f o out ≡ readBuffer g b′ f o out)
+    unfolding readAnswer readBuffer readCount
+    reads-alike o out =
+        let n : ℕ = readCount g b f o out in
+        let n′ : ℕ = readCount g b′ f o out in
+        let counts : Whole g b × f < files g → n ≡ n′ = λ p t. min (length out) (sizes-alike p t - o) in (
+          answers-alike (fileFaults g b f) (fileFaults g b′ f) (file-verdict f) n n′ counts,
+          left-alike (fileFaults g b f) (fileFaults g b′ f) (file-verdict f) n n′
+              (take n (drop o (contents g b f)) ++ drop n out) (take n′ (drop o (contents g b′ f)) ++ drop n′ out) out counts
+              (λ p t. take (counts p t) (drop o (contents-alike g same (found p) t)) ++ drop (counts p t) out),
+        )
+
+    write-plans : Whole g b × f < files g → (o : ℕ) (new : List ℕ) → writePlan g (lowest g b) b f o new ≡ writePlan g (lowest g b′) b′ f o new
+    unfolding lowest
+    write-plans p o new =
+        write-plan-alike g same (lowest g b) f (write-clear g b (p .0) fit f (p .1)) o new ∙ (λ t. writePlan g (λ i. getD (free-alike (p .0) t) i 0) b′ f o new)
+
+    write-alike : (o : ℕ) (new slice : List ℕ) → write g b f o new slice ≡ write g b′ f o new slice
+    unfolding write writeFaults
+    write-alike o new slice =
+        let faults : ℕ → ℕ → Plan → Faults = λ s room p. (Offset, ltb s o) ∷ (End, ltb (greatest g) (o + length new)) ∷ (FreeBlocks, ltb room (p .taken)) ∷ [] in
+        let p : Plan = writePlan g (lowest g b) b f o new in
+        let p′ : Plan = writePlan g (lowest g b′) b′ f o new in
+        planned-alike (fileFaults g b f) (fileFaults g b′ f) (file-verdict f)
+        (faults (size g b f) (length (free g b)) p) (faults (size g b′ f) (length (free g b′)) p′) (pairs p) (pairs p′) slice
+        (λ q t. faults (sizes-alike q t) (length (free-alike (q .0) t)) (write-plans q o new t)) (λ q t. pairs (write-plans q o new t))
+
+    set-length-alike : (n : ℕ) (slice : List ℕ) → setLength g b f n slice ≡ setLength g b′ f n slice
+    unfolding setLength
+    set-length-alike n slice =
+        planned-alike (fileFaults g b f) (fileFaults g b′ f) (file-verdict f) ((End, ltb (greatest g) n) ∷ []) ((End, ltb (greatest g) n) ∷ [])
+        (pairs (lengthPlan g b f n)) (pairs (lengthPlan g b′ f n)) slice (λ q. refl) (λ q t. pairs (length-plan-alike g same (found q) n t))
+
+  changes-alike : (c : Change) (slice : List ℕ) → called g b c slice ≡ called g b′ c slice
+  unfolding called
+  changes-alike (writing f o new) slice = write-alike f o (new .values) slice
+  changes-alike (lengthTo f n) slice = set-length-alike f n slice
+
+  format-plan-alike : formatPlan g b ≡ formatPlan g b′
+  unfolding formatPlan trailerStores trailerAddress
+  format-plan-alike = λ t.
+      let last : ℕ = g .words * (count-alike g same t - 1) in
+      let trailers : List Store = tabulate (g .words - 1) (λ j. store (last + suc j) (trailerWord g (count-alike g same t) (suc j))) in
+      plan (step [] (last + 0) 0 ∷ step (stored (g .words) (λ c. c) (formatPages g) 1 ++ trailers) (last + 0) (g .words + 1) ∷ []) 0
+
+  same-calls : SameCalls g b b′
+  unfolding checkAnswer freeCountAnswer sizeAnswer format performAnswer performFaults wordCountFault
+  same-calls = record {
+    checks = answers-alike (boardFaults g b) (boardFaults g b′) boards 0 0 (λ w. refl);
+    counts = answers-alike (boardFaults g b) (boardFaults g b′) boards (length (free g b)) (length (free g b′)) (λ w t. length (free-alike w t));
+    sizes = λ f. answers-alike (fileFaults g b f) (fileFaults g b′ f) (file-verdict f) (size g b f) (size g b′ f) (sizes-alike f);
+    reads = reads-alike;
+    changes = changes-alike;
+    formats = λ slice t. planned ((WordCount, not (word-count-alike t)) ∷ []) (pairs (format-plan-alike t)) slice;
+    performs = λ slice k t. answered ((WordCount, not (word-count-alike t)) ∷ (PairCount, ltb (length slice) (2 * k))
+        ∷ (Address, not (all (λ s. ltb (s .at) (same .lengths t) || isBarrier s) (take k (paired slice)))) ∷ []) k;
+  }
+
+pub boot-rule : BootRule
+boot-rule g fit b b′ l e = same-calls g fit (dropped-alike (g .words) b b′ l e)

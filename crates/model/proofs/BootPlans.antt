@@ -1,0 +1,304 @@
+-- Boards that are alike outside block 0 have the same plans: each way of planning a write, growth before it, and length change. A file's plan is
+-- read off its inode and its tree, so all that is asked of a board is that the file's inode is found outside block 0 (Found). What follows growth
+-- is planned on the grown board, which need not be an accepted one: there, growth's stores have left the way to the inode as it was (Clear).
+use mathlib.Core.Path.{_≡_, refl, _∙_}
+use mathlib.Core.Logic.{_≢_}
+use mathlib.Core.Bool.{Bool, true, false, not, cond, _&&_, _||_}
+use mathlib.Core.List.{List, [], _∷_, _++_}
+use Prim.Native.Nat.{ℕ, zero, suc, _+_, _-_, _*_, _/_, _%_, _≤_, _<_, max}
+use native.Mathlib.Omega.{arith}
+use lib.ListN.{length, getD, replicate}
+use lib.Dec.{leb, ltb, eqb}
+use Rattle.model.specs.declared.WalkEnd.{WalkEnd}
+use Rattle.model.specs.declared.WalkEnd.the-variants.{Block, Hole}
+use Rattle.model.specs.Lists.{joined, choose, concat}
+use Rattle.model.specs.Words.{byteOf, wordOf}
+use Rattle.model.specs.Layout.{Layout}
+use Rattle.model.specs.Tree.{live, seen, ending, span, least, cell}
+use Rattle.model.specs.Board.{blockCount, trailer, inodeBlock, inodePointer, leaf, rootAddress, sizeAddress, root, size, walkTo}
+use Rattle.model.specs.Store.{Store, store, performed}
+use Rattle.model.specs.Plan.{Plan, plan, step, stepEpochs, planEpochs, afterwards}
+use Rattle.model.specs.Fresh.{Page, splice, part, partLength, needBefore, dataPage, stored, freshPointer, pointerPage, build}
+use Rattle.model.specs.InPlace.{atBlock, tailBefore, walkLive, tailPages, tailWords, hooked, inPlace}
+use Rattle.model.specs.Change.{levels, levelTop, growthTo, growth, splicedWord, singleBlock, singleWord, isTail, emptyTail, tail, Shadow, descend, shadowInside, leafPage, shadowWithLength, chosenWay, writePlan, cleared, lengthPlan}
+use Rattle.model.proofs.Perform.{All, all-append, length-performed, performed-away, blocks-differ, stored-blocks}
+use Rattle.model.proofs.Alike.{Alike, performed-alike, Off, off-cond, walk-to-off, cell-alike, link-alike, Found, inode-alike, leaf-alike, address-alike, address-off, root-alike, size-alike, walk-to-alike}
+
+-- ---- Trees
+
+-- the descent arrives at no word of block 0
+descend-off : (W : ℕ) (fresh : ℕ → ℕ) (b : List ℕ) (h k n o : ℕ) (new : List ℕ) (c a : ℕ) → W ≤ a → W ≤ descend W fresh b h k n o new c a .at
+unfolding descend
+descend-off W fresh b zero k n o new c a l = l
+descend-off W fresh b (suc h) zero n o new c a l = l
+descend-off W fresh b (suc h) (suc k) n o new c a l =
+    let j : ℕ = o / span W h in
+    let below : Shadow = descend W fresh b h (cell W b (suc k) j / W) (n - j * span W h) (o % span W h) new c (W * suc k + j) in
+    let here : Shadow = record { at = a; pages = build W fresh b (suc h) (suc k) n o new c } in
+    by (leb (o % span W h + length new) (span W h)) below here
+    (descend-off W fresh b h (cell W b (suc k) j / W) (n - j * span W h) (o % span W h) new c (W * suc k + j) (omega arith)) l
+  where
+    by : (t : Bool) (x y : Shadow) → W ≤ x .at → W ≤ y .at → W ≤ cond t x y .at
+    by true x y u v = u
+    by false x y u v = v
+
+module _ (W : ℕ) {b b′ : List ℕ} (same : Alike W b b′) where
+  data-alike : (k n o : ℕ) (new : List ℕ) → dataPage W b k n o new ≡ dataPage W b′ k n o new
+  unfolding dataPage
+  data-alike k n o new = λ t j. wordOf 8 (λ i. splice o new (seen (n - (8 * j + i)) (byteOf (link-alike W same k j t) i)) (8 * j + i))
+
+  walk-live-alike : (h k n : ℕ) → walkLive W b h k n ≡ walkLive W b′ h k n
+  unfolding walkLive
+  walk-live-alike zero k n = refl
+  walk-live-alike (suc h) k n = λ t. choose (n % span W h) (ending k n) (walk-live-alike h (link-alike W same k (n / span W h) t / W) (n % span W h) t)
+
+  tail-words-alike : (k n : ℕ) (new : List ℕ) → tailWords W b k n new ≡ tailWords W b′ k n new
+  unfolding tailWords
+  tail-words-alike k n new = λ t. joined W (λ j. choose (partLength 8 j n (length new)) [] (store (W * k + j) (data-alike k n n new t j) ∷ []))
+
+  in-place-alike : (hook : ℕ → ℕ → ℕ → ℕ) (h k n : ℕ) (new : List ℕ) (c a : ℕ) → inPlace W b hook h k n new c a ≡ inPlace W b′ hook h k n new c a
+  unfolding inPlace hooked
+  in-place-alike hook zero k zero new c a = refl
+  in-place-alike hook zero zero (suc n) new c a = refl
+  in-place-alike hook zero (suc k) (suc n) new c a = tail-words-alike (suc k) (suc n) new
+  in-place-alike hook (suc h) k zero new c a = refl
+  in-place-alike hook (suc h) zero (suc n) new c a = refl
+  in-place-alike hook (suc h) (suc k) (suc n) new c a =
+      λ t. joined W (λ j. in-place-alike hook h (cell-alike W same (suc k) j (omega arith) t / W) (suc n - j * span W h) (part (span W h) j (suc n) new)
+      (c + tailBefore W h (suc n) (length new) j) (W * suc k + j) t)
+
+  module _ (fresh : ℕ → ℕ) where
+    pointer-page-alike : (h k n o l c : ℕ) → pointerPage W fresh b h k n o l c ≡ pointerPage W fresh b′ h k n o l c
+    unfolding pointerPage
+    pointer-page-alike h k n o l c = λ t j. choose (partLength (span W h) j o l) (seen (n - j * span W h) (link-alike W same k j t))
+        (freshPointer W fresh h (o - j * span W h) (partLength (span W h) j o l) (c + needBefore W h o l j))
+
+    build-alike : (h k n o : ℕ) (new : List ℕ) (c : ℕ) → build W fresh b h k n o new c ≡ build W fresh b′ h k n o new c
+    unfolding build
+    build-alike zero k n o [] c = refl
+    build-alike zero k n o (x ∷ new) c = λ t. data-alike k n o (x ∷ new) t ∷ []
+    build-alike (suc h) k n o [] c = refl
+    build-alike (suc h) k n o (x ∷ new) c =
+        λ t. joined W (λ j. build-alike h (link-alike W same k j t / W) (n - j * span W h) (o - j * span W h) (part (span W h) j o (x ∷ new))
+        (c + needBefore W h o (suc (length new)) j) t)
+        ++ (pointer-page-alike h k n o (suc (length new)) c t ∷ [])
+
+    tail-pages-alike : (h k n : ℕ) (new : List ℕ) (c : ℕ) → tailPages W b fresh h k n new c ≡ tailPages W b′ fresh h k n new c
+    unfolding tailPages
+    tail-pages-alike zero k zero new c = build-alike zero 0 0 0 new c
+    tail-pages-alike zero k (suc n) new c = refl
+    tail-pages-alike (suc h) k zero new c = build-alike (suc h) 0 0 0 new c
+    tail-pages-alike (suc h) k (suc n) new c =
+        λ t. joined W (λ j. tail-pages-alike h (link-alike W same k j t / W) (suc n - j * span W h) (part (span W h) j (suc n) new)
+        (c + tailBefore W h (suc n) (length new) j) t)
+
+    descend-alike : (h k n o : ℕ) (new : List ℕ) (c a : ℕ) → descend W fresh b h k n o new c a ≡ descend W fresh b′ h k n o new c a
+    unfolding descend
+    descend-alike zero k n o new c a = λ t. record { at = a; pages = build-alike zero k n o new c t }
+    descend-alike (suc h) zero n o new c a = λ t. record { at = a; pages = build-alike (suc h) zero n o new c t }
+    descend-alike (suc h) (suc k) n o new c a = λ t.
+        let j : ℕ = o / span W h in
+        let here : Shadow = record { at = a; pages = build-alike (suc h) (suc k) n o new c t } in
+        let below : Shadow = descend-alike h (cell-alike W same (suc k) j (omega arith) t / W) (n - j * span W h) (o % span W h) new c (W * suc k + j) t in
+        cond (leb (o % span W h + length new) (span W h)) below here
+
+-- ---- Ways of planning
+
+single-off : (g : Layout) (b : List ℕ) (f o e : ℕ) → Off (singleBlock g b f o e)
+unfolding singleBlock
+single-off g b f o e = off-cond (leb e (size g b f) && eqb (o / 8) ((e - 1) / 8)) (walkTo g b f o) (walk-to-off g b f o)
+
+module _ (g : Layout) {b b′ : List ℕ} (same : Alike (g .words) b b′) {f : ℕ} (found : Found g b f) where
+  address : rootAddress g b f ≡ rootAddress g b′ f
+  address = address-alike g same found
+
+  root-word : root g b f ≡ root g b′ f
+  root-word = root-alike g same found
+
+  sizes : size g b f ≡ size g b′ f
+  sizes = size-alike g same found
+
+  size-address : sizeAddress g b f ≡ sizeAddress g b′ f
+  unfolding sizeAddress
+  size-address = λ t. address t + 1
+
+  leaf-word : (j : ℕ) → cell (g .words) b (leaf g b (f / g .inodes)) j ≡ cell (g .words) b′ (leaf g b′ (f / g .inodes)) j
+  leaf-word j = cell-alike (g .words) same (leaf g b (f / g .inodes)) j (found .leaf-there)
+      ∙ (λ t. cell (g .words) b′ (leaf-alike g same (found .trailer-there) (found .inode-there) (f / g .inodes) t) j)
+
+  single-block-alike : (o e : ℕ) → singleBlock g b f o e ≡ singleBlock g b′ f o e
+  unfolding singleBlock
+  single-block-alike o e = λ t. cond (leb e (sizes t) && eqb (o / 8) ((e - 1) / 8)) (walk-to-alike g same found o t) Hole
+
+  single-word-alike : (k o : ℕ) (new : List ℕ) (c : ℕ) → 0 < k → singleWord g b f k o new c ≡ singleWord g b′ f k o new c
+  unfolding singleWord cell
+  single-word-alike k o new c l = λ t.
+      let j : ℕ = o % span (g .words) 0 / 8 in
+      plan (step [] (g .words * k + j) (splicedWord (o % 8) new (cell-alike (g .words) same k j l t)) ∷ []) c
+
+  is-tail-alike : (o : ℕ) → isTail g b f o ≡ isTail g b′ f o
+  unfolding isTail
+  is-tail-alike o = λ t. eqb o (sizes t)
+      && (not (live (sizes t)) || atBlock (walk-live-alike (g .words) same (root-word t % g .words) (root-word t / g .words) (sizes t) t))
+
+  cleared-alike : (s n : ℕ) → cleared g b f s n ≡ cleared g b′ f s n
+  unfolding cleared
+  cleared-alike zero n = λ t. store (address t) 0 ∷ []
+  cleared-alike (suc s) n =
+      λ t. in-place-alike (g .words) same (λ h l c. 0) (root-word t % g .words) (root-word t / g .words) (suc s) (replicate (n - suc s) 0) 0 (address t) t
+
+  pub length-plan-alike : (n : ℕ) → lengthPlan g b f n ≡ lengthPlan g b′ f n
+  unfolding lengthPlan
+  length-plan-alike n = λ t.
+      let hidden : List Store = cond (ltb n (sizes t)) [] (cleared-alike (sizes t) n t) in
+      cond (eqb n (sizes t)) (plan [] 0) (plan (step hidden (size-address t) n ∷ []) 0)
+
+  module _ (fresh : ℕ → ℕ) where
+    growth-to-alike : (h : ℕ) → growthTo g fresh b f h ≡ growthTo g fresh b′ f h
+    unfolding growthTo
+    growth-to-alike h = λ t.
+        let d : ℕ = h - root-word t % g .words in
+        let ps : List Page = levels (g .words) fresh (root-word t / g .words) d in
+        plan (step (stored (g .words) fresh ps 0) (address t) (g .words * levelTop fresh (root-word t / g .words) d + h) ∷ []) (length ps)
+
+    growth-alike : (e : ℕ) → growth g fresh b f e ≡ growth g fresh b′ f e
+    unfolding growth
+    growth-alike e =
+        λ t. cond (live (sizes t) && ltb (span (g .words) (root-word t % g .words)) e) (growth-to-alike (least (g .words) (g .height) e) t) (plan [] 0)
+
+    empty-tail-alike : (new : List ℕ) (c : ℕ) → emptyTail g fresh b f new c ≡ emptyTail g fresh b′ f new c
+    unfolding emptyTail
+    empty-tail-alike new c = λ t.
+        let h : ℕ = least (g .words) (g .height) (length new) in
+        let ps : List Page = build-alike (g .words) same fresh h 0 0 0 new c t in
+        let hook : Store = store (address t) (freshPointer (g .words) fresh h 0 (length new) c + h) in
+        plan (step (stored (g .words) fresh ps c ++ (hook ∷ [])) (size-address t) (length new) ∷ []) (c + length ps)
+
+    tail-alike : (s : ℕ) (new : List ℕ) (c : ℕ) → tail g fresh b f s new c ≡ tail g fresh b′ f s new c
+    unfolding tail
+    tail-alike zero new c = empty-tail-alike new c
+    tail-alike (suc s) new c = λ t.
+        let h : ℕ = root-word t % g .words in
+        let k : ℕ = root-word t / g .words in
+        let ps : List Page = tail-pages-alike (g .words) same fresh h k (suc s) new c t in
+        let others : List Store = in-place-alike (g .words) same (λ h l i. freshPointer (g .words) fresh h 0 l i) h k (suc s) new c (address t) t in
+        plan (step (stored (g .words) fresh ps c ++ others) (size-address t) (suc s + length new) ∷ []) (c + length ps)
+
+    shadow-inside-alike : (o : ℕ) (new : List ℕ) (c : ℕ) → shadowInside g fresh b f o new c ≡ shadowInside g fresh b′ f o new c
+    unfolding shadowInside
+    shadow-inside-alike o new c =
+        let W : ℕ = g .words in
+        let w : Shadow = descend W fresh b (root g b f % W) (root g b f / W) (size g b f) o new c (rootAddress g b f) in
+        let w′ : Shadow = descend W fresh b′ (root g b′ f % W) (root g b′ f / W) (size g b′ f) o new c (rootAddress g b′ f) in
+        let arrived : w ≡ w′ = λ t. descend-alike W same fresh (root-word t % W) (root-word t / W) (sizes t) o new c (address t) t in
+        let off : W ≤ w .at = descend-off W fresh b (root g b f % W) (root g b f / W) (size g b f) o new c (rootAddress g b f) (address-off g same found) in
+        let word : getD b (w .at) 0 ≡ getD b′ (w′ .at) 0 = same .words (w .at) off ∙ (λ t. getD b′ (arrived t .at) 0) in
+        λ t. let ps : List Page = arrived t .pages in
+        plan (step (stored W fresh ps c) (arrived t .at) (W * fresh (c + length ps - 1) + word t % W) ∷ []) (c + length ps)
+
+    leaf-page-alike : (r s : ℕ) → leafPage g fresh b f r s ≡ leafPage g fresh b′ f r s
+    unfolding leafPage
+    leaf-page-alike r s = λ t j. cond (eqb j (2 * (f % g .inodes))) r (cond (eqb j (2 * (f % g .inodes) + 1)) s (leaf-word j t))
+
+    shadow-with-length-alike : (o : ℕ) (new : List ℕ) (c : ℕ) → shadowWithLength g fresh b f o new c ≡ shadowWithLength g fresh b′ f o new c
+    unfolding shadowWithLength
+    shadow-with-length-alike o new c = λ t.
+        let ps : List Page = build-alike (g .words) same fresh (root-word t % g .words) (root-word t / g .words) (sizes t) o new c t in
+        let copy : Page = leaf-page-alike (g .words * fresh (c + length ps - 1) + root-word t % g .words) (max (sizes t) (o + length new)) t in
+        plan (step (stored (g .words) fresh (ps ++ (copy ∷ [])) c) (g .words * inode-alike g same (found .trailer-there) t + f / g .inodes)
+        (g .words * fresh (c + length ps)) ∷ []) (c + length ps + 1)
+
+    chosen-way-alike : (w : WalkEnd) → Off w → (o : ℕ) (new : List ℕ) (c : ℕ) → chosenWay g fresh b f w o new c ≡ chosenWay g fresh b′ f w o new c
+    unfolding chosenWay Off
+    chosen-way-alike (Block k) off o new c = single-word-alike k o new c off
+    chosen-way-alike Hole off o new c = λ t.
+        cond (is-tail-alike o t) (tail-alike (sizes t) new c t)
+        (cond (leb (o + length new) (sizes t)) (shadow-inside-alike o new c t) (shadow-with-length-alike o new c t))
+
+    way-alike : (o e : ℕ) (new : List ℕ) (c : ℕ) → chosenWay g fresh b f (singleBlock g b f o e) o new c ≡ chosenWay g fresh b′ f (singleBlock g b′ f o e) o new c
+    way-alike o e new c =
+        chosen-way-alike (singleBlock g b f o e) (single-off g b f o e) o new c ∙ (λ t. chosenWay g fresh b′ f (single-block-alike o e t) o new c)
+
+-- ---- Growth
+
+step-stores : (ss : List Store) (c : Store) → concat (stepEpochs ss c ++ []) ≡ ss ++ (c ∷ [])
+unfolding concat stepEpochs
+step-stores [] c = refl
+step-stores (s ∷ ss) c = refl
+
+-- the stores of a plan
+abbrev storesOf : Plan → List Store
+storesOf p = concat (planEpochs (p .steps))
+
+-- growth stores to fresh blocks and to the root word
+module _ (g : Layout) (fresh : ℕ → ℕ) (b : List ℕ) (f : ℕ) (P : ℕ → Type 0) (blocks : (i j : ℕ) → j < g .words → P (g .words * fresh i + j)) (word : P (rootAddress g b f)) where
+  growth-to-stores : (h : ℕ) → All (λ s. P (s .at)) (storesOf (growthTo g fresh b f h))
+  unfolding growthTo plan step planEpochs store All
+  growth-to-stores h =
+      let d : ℕ = h - root g b f % g .words in
+      let k : ℕ = root g b f / g .words in
+      let ps : List Page = levels (g .words) fresh k d in
+      let c : Store = store (rootAddress g b f) (g .words * levelTop fresh k d + h) in
+      rw (step-stores (stored (g .words) fresh ps 0) c)
+      (all-append (λ s. P (s .at)) (stored (g .words) fresh ps 0) (c ∷ []) (stored-blocks (g .words) fresh P ps 0 (λ i j u v l. blocks i j l)) (word, tt))
+
+  growth-stores : (e : ℕ) → All (λ s. P (s .at)) (storesOf (growth g fresh b f e))
+  unfolding growth plan planEpochs concat All
+  growth-stores e = by (live (size g b f) && ltb (span (g .words) (root g b f % g .words)) e)
+    where
+      by : (t : Bool) → All (λ s. P (s .at)) (storesOf (cond t (growthTo g fresh b f (least (g .words) (g .height) e)) (plan [] 0)))
+      by true = growth-to-stores (least (g .words) (g .height) e)
+      by false = tt
+
+-- no block that growth stores to is the trailer or the inode pointer block
+pub record Clear (g : Layout) (fresh : ℕ → ℕ) (b : List ℕ) (f : ℕ) : Type 0 where
+  pub found : Found g b f
+  pub trailer-stays : (i : ℕ) → blockCount g b - 1 ≢ fresh i
+  pub trailer-leaf : blockCount g b - 1 ≢ leaf g b (f / g .inodes)
+  pub inode-stays : (i : ℕ) → inodeBlock g b ≢ fresh i
+  pub inode-leaf : inodeBlock g b ≢ leaf g b (f / g .inodes)
+  pub pointer-inside : f / g .inodes < g .words
+  pub root-inside : 2 * (f % g .inodes) < g .words
+
+module _ (g : Layout) (fresh : ℕ → ℕ) (b : List ℕ) (f : ℕ) (clear : Clear g fresh b f) (e : ℕ) where
+  grown : List ℕ
+  grown = performed b (storesOf (growth g fresh b f e))
+
+  cell-stays : (k j : ℕ) → j < g .words → ((i : ℕ) → k ≢ fresh i) → k ≢ leaf g b (f / g .inodes) → cell (g .words) grown k j ≡ cell (g .words) b k j
+  unfolding grown cell rootAddress
+  cell-stays k j l fr lf = performed-away b (storesOf (growth g fresh b f e)) (g .words * k + j)
+      (growth-stores g fresh b f (λ a. g .words * k + j ≢ a) (λ i j′ m. blocks-differ (g .words) k (fresh i) j j′ l m (fr i))
+      (blocks-differ (g .words) k (leaf g b (f / g .inodes)) j (2 * (f % g .inodes)) l (clear .root-inside) lf) e)
+
+  count-stays : blockCount g grown ≡ blockCount g b
+  unfolding grown blockCount
+  count-stays = rw (length-performed b (storesOf (growth g fresh b f e)))
+
+  inode-block-stays : inodeBlock g grown ≡ inodeBlock g b
+  unfolding inodeBlock trailer
+  inode-block-stays = rw (count-stays, cell-stays (blockCount g b - 1) 0 (omega (arith, clear .pointer-inside)) (clear .trailer-stays) (clear .trailer-leaf))
+
+  leaf-stays : leaf g grown (f / g .inodes) ≡ leaf g b (f / g .inodes)
+  unfolding leaf inodePointer
+  leaf-stays = rw (inode-block-stays, cell-stays (inodeBlock g b) (f / g .inodes) (clear .pointer-inside) (clear .inode-stays) (clear .inode-leaf))
+
+  grown-found : Found g grown f
+  grown-found = record {
+    trailer-there = rw count-stays (clear .found .trailer-there);
+    inode-there = rw inode-block-stays (clear .found .inode-there);
+    leaf-there = rw leaf-stays (clear .found .leaf-there);
+  }
+
+-- first the grown boards, by one plan of growth; then that plan and the other board's
+pub write-plan-alike : (g : Layout) {b b′ : List ℕ} → Alike (g .words) b b′ → (fresh : ℕ → ℕ) (f : ℕ) → Clear g fresh b f → (o : ℕ) (new : List ℕ)
+    → writePlan g fresh b f o new ≡ writePlan g fresh b′ f o new
+unfolding writePlan grown
+write-plan-alike g same fresh f clear o [] = refl
+write-plan-alike g {b} {b′} same fresh f clear o (x ∷ new) =
+    let e : ℕ = o + suc (length new) in
+    let p : Plan = growth g fresh b f e in
+    let same′ : Alike (g .words) (performed b (storesOf p)) (performed b′ (storesOf p)) = performed-alike (g .words) b b′ (storesOf p) same in
+    (λ t. afterwards p (way-alike g same′ (grown-found g fresh b f clear e) fresh o e (x ∷ new) (p .taken) t))
+    ∙ (λ t. let q : Plan = growth-alike g same (clear .found) fresh e t in
+    let c : List ℕ = performed b′ (storesOf q) in
+    afterwards q (chosenWay g fresh c f (singleBlock g c f o e) o (x ∷ new) (q .taken)))

@@ -1,0 +1,232 @@
+-- Pairs and epochs: a plan is the pairs of its epochs, and a call that plans lays them into the lent slice or is refused. Every rule about plans
+-- and cuts begins with these.
+use mathlib.Core.Path.{_≡_, refl, sym, ap, _∙_}
+use mathlib.Core.Logic.{_≢_, _⊎_, inl, inr}
+use mathlib.Core.Bool.{Bool, false}
+use mathlib.Core.List.{List, [], _∷_, _++_, map, map-append}
+use Prim.Native.Nat.{ℕ, zero, suc, _+_, _-_, _*_, _/_, _^_, _≤_, _<_}
+use native.Mathlib.Omega.{arith}
+use native.Mathlib.Nat.{zero-add}
+use lib.ListN.{length, getD, take, drop}
+use lib.Seq.{sets, sets-eq, take-append-seam, take-nil}
+use lib.Dec.{T, ltb, lt→ltb}
+use borrow.Author.Tests.{ltb-false, ne-eqb}
+use Rattle.model.specs.declared.Fault.{Fault}
+use Rattle.model.specs.declared.Fault.the-variants.{PlanLength}
+use Rattle.model.specs.declared.Answer.the-variants.{Done, Refused}
+use Rattle.model.specs.Lists.{tabulate, consIf, all, distinct, concat}
+use Rattle.model.specs.Answers.{Faults, answered, unlessRefused, counted}
+use Rattle.model.specs.Store.{Store, store, barrier, isBarrier, performed, opening, epochs, fenced, flat, paired, laid}
+use Rattle.model.specs.Fresh.{Page, stored}
+use Rattle.model.specs.Calls.{Planned, planned}
+use Rattle.model.specs.Cut.{Cut, chosen, planOf, standing}
+use Rattle.model.specs.Claims.{Shaped}
+use Rattle.model.proofs.Cases.{decide, either, and-both}
+use Rattle.model.proofs.Counting.{occ, one-other, occ-append, occ-tabulate, sum-once}
+use Rattle.model.proofs.Perform.{All, Plain, all-tabulate, address-block, pageStore, stored-blocks}
+
+module _ {A : Type 0} where
+  pub all-left : (P : A → Type 0) (xs ys : List A) → All P (xs ++ ys) → All P xs
+  unfolding All
+  all-left P [] ys h = tt
+  all-left P (x ∷ xs) ys h = (h .0, all-left P xs ys (h .1))
+
+  pub all-right : (P : A → Type 0) (xs ys : List A) → All P (xs ++ ys) → All P ys
+  unfolding All
+  all-right P [] ys h = h
+  all-right P (x ∷ xs) ys h = all-right P xs ys (h .1)
+
+  -- P of each where Q is of each and gives P
+  pub all-map : (P Q : A → Type 0) → ((x : A) → Q x → P x) → (xs : List A) → All Q xs → All P xs
+  unfolding All
+  all-map P Q f [] h = tt
+  all-map P Q f (x ∷ xs) h = (f x (h .0), all-map P Q f xs (h .1))
+
+  -- as a test
+  pub all-holds : (p : A → Bool) (xs : List A) → All (λ x. T (p x)) xs → T (all p xs)
+  unfolding All all
+  all-holds p [] h = tt
+  all-holds p (x ∷ xs) h = and-both (p x) (all p xs) (h .0) (all-holds p xs (h .1))
+
+-- ---- Addresses
+
+abbrev pub addresses : List Store → List ℕ
+addresses ss = map (λ s. s .at) ss
+
+-- one that no store goes to is not among them
+pub addresses-away : (q : ℕ) (ss : List Store) → All (λ s. q ≢ s .at) ss → occ q (addresses ss) ≡ 0
+unfolding All occ
+addresses-away q [] h = refl
+addresses-away q (s ∷ ss) h = omega (arith, one-other q (s .at) (h .0), addresses-away q ss (h .1))
+
+pub addresses-append : (q : ℕ) (xs ys : List Store) → occ q (addresses (xs ++ ys)) ≡ occ q (addresses xs) + occ q (addresses ys)
+addresses-append q xs ys = rw (map-append (λ (s : Store). s .at) xs ys) (occ-append q (addresses xs) (addresses ys))
+
+addresses-tabulate : (m : ℕ) (s : ℕ → Store) → addresses (tabulate m s) ≡ tabulate m (λ j. s j .at)
+unfolding tabulate
+addresses-tabulate zero s = refl
+addresses-tabulate (suc m) s = rw (map-append (λ (x : Store). x .at) (tabulate m s) (s m ∷ []), addresses-tabulate m s)
+
+-- of a loop whose addresses differ, each is there once
+pub tabulate-once : (q m : ℕ) (s : ℕ → Store) → ((i j : ℕ) → i < j → j < m → s i .at ≢ s j .at) → occ q (addresses (tabulate m s)) ≤ 1
+tabulate-once q m s d = rw (addresses-tabulate m s, occ-tabulate q m (λ j. s j .at)) (sum-once q m (λ j. s j .at) d)
+
+-- an address in another block than k
+pub block-away : (W k j q : ℕ) → j < W → q / W ≢ k → q ≢ W * k + j
+block-away W k j q l d e = d (ap (λ (x : ℕ). x / W) e ∙ address-block W k j l)
+
+module _ (W : ℕ) (fresh : ℕ → ℕ) where
+  -- no address of pages in different blocks is there twice
+  pub stored-once : (ps : List Page) (c : ℕ) → ((i j : ℕ) → c ≤ i → i < j → j < c + length ps → fresh i ≢ fresh j) → (q : ℕ) → occ q (addresses (stored W fresh ps c)) ≤ 1
+  unfolding stored occ store
+  stored-once [] c d q = omega arith
+  stored-once (p ∷ ps) c d q =
+      let s : ℕ → Store = pageStore W (fresh c) p in
+      let rest : List Store = stored W fresh ps (suc c) in
+      elim (decide (q / W) (fresh c)) [
+        | inl e ↦ omega (
+          arith,
+          addresses-append q (tabulate W s) rest,
+          tabulate-once q W s (λ i j u v. omega arith),
+          addresses-away q rest (stored-blocks W fresh (λ x. q ≢ x) ps (suc c)
+              (λ i j u v l. block-away W (fresh i) j q l (λ z. d c i (omega arith) (omega arith) (omega arith) (sym e ∙ z)))),
+        )
+        | inr n ↦ omega (
+          arith,
+          addresses-append q (tabulate W s) rest,
+          addresses-away q (tabulate W s) (all-tabulate (λ x. q ≢ x .at) W s (λ j l. block-away W (fresh c) j q l n)),
+          stored-once ps (suc c) (λ i j u v w. d i j (omega arith) v (omega arith)) q,
+        )
+      ]
+
+-- ---- Epochs
+
+-- some store is in it
+abbrev pub Full : List Store → Type 0
+Full e = 0 < length e
+
+-- a store that is no barrier goes to the epoch after it
+plain-opens : (s : Store) (ss : List Store) → s .at ≢ 2 ^ 64 - 1 → epochs (s ∷ ss) ≡ opening s (epochs ss)
+unfolding epochs isBarrier
+plain-opens s ss d = rw (ne-eqb (s .at) (2 ^ 64 - 1) d)
+
+-- stores alone are one epoch
+epochs-one : (e : List Store) → Full e → Plain e → epochs e ≡ e ∷ []
+unfolding All opening epochs
+epochs-one [] f p = absurd (omega arith)
+epochs-one (s ∷ []) f p = plain-opens s [] (p .0)
+epochs-one (s ∷ t ∷ e) f p = plain-opens s (t ∷ e) (p .0) ∙ ap (opening s) (epochs-one (t ∷ e) (omega arith) (p .1))
+
+-- and before a barrier they are the first
+epochs-first : (e ss : List Store) → Plain e → epochs (e ++ (barrier ∷ ss)) ≡ e ∷ epochs ss
+unfolding All opening epochs isBarrier barrier store
+epochs-first [] ss p = refl
+epochs-first (s ∷ e) ss p = plain-opens s (e ++ (barrier ∷ ss)) (p .0) ∙ ap (opening s) (epochs-first e ss (p .1))
+
+-- the epochs of a plan are those that it was made of
+pub epochs-fenced : (es : List (List Store)) → All Full es → All Plain es → epochs (fenced es) ≡ es
+unfolding fenced All epochs
+epochs-fenced [] f p = refl
+epochs-fenced (e ∷ []) f p = epochs-one e (f .0) (p .0)
+epochs-fenced (e ∷ d ∷ es) f p = epochs-first e (fenced (d ∷ es)) (p .0) ∙ ap (λ (r : List (List Store)). e ∷ r) (epochs-fenced (d ∷ es) (f .1) (p .1))
+
+-- and it is shaped as plans must be
+pub shaped : (es : List (List Store)) → All Full es → All Plain es → All (λ e. T (distinct (addresses e))) es → Shaped (fenced es)
+shaped es f p o = record {
+  fences = rw (epochs-fenced es f p);
+  full = rw (epochs-fenced es f p) (all-holds (λ e. ltb 0 (length e)) es (all-map (λ e. T (ltb 0 (length e))) Full (λ e l. lt→ltb 0 (length e) l) es f));
+  once = rw (epochs-fenced es f p) (all-holds (λ e. distinct (addresses e)) es o);
+}
+
+pub shaped-none : Shaped []
+unfolding fenced All
+shaped-none = shaped [] tt tt tt
+
+-- ---- The lent slice
+
+length-flat : (ss : List Store) → length (flat ss) ≡ 2 * length ss
+unfolding flat
+length-flat [] = refl
+length-flat (s ∷ ss) = omega (arith, length-flat ss)
+
+paired-flat : (ss : List Store) (rest : List ℕ) → paired (flat ss ++ rest) ≡ ss ++ paired rest
+unfolding flat paired store
+paired-flat [] rest = refl
+paired-flat (s ∷ ss) rest = ap (λ (r : List Store). s ∷ r) (paired-flat ss rest)
+
+-- pairs laid into a slice that has room for them are found there
+pub paired-laid : (slice : List ℕ) (ss : List Store) → 2 * length ss ≤ length slice → take (length ss) (paired (laid slice 0 ss)) ≡ ss
+unfolding laid
+paired-laid slice ss l =
+    let at : sets slice 0 (flat ss) ≡ flat ss ++ drop (length (flat ss)) slice = rw zero-add at (sets-eq (flat ss) slice 0 (omega (arith, length-flat ss))) in
+    let rest : List ℕ = drop (length (flat ss)) slice in
+    rw (at, paired-flat ss rest) (take-append-seam ss (paired rest))
+
+-- ---- What a call that plans answers and leaves
+
+-- a fault's test does not find it
+abbrev pub Passed : Fault × Bool → Type 0
+Passed t = t .1 ≡ false
+
+pub answered-passed : (fs : Faults) (n : ℕ) → All Passed fs → answered fs n ≡ Done n
+unfolding All answered
+answered-passed [] n h = refl
+answered-passed (t ∷ ts) n h = rw (h .0) (answered-passed ts n (h .1))
+
+-- no test finds a fault, or the answer is a refusal
+found : (fs : Faults) (n : ℕ) → All Passed fs ⊎ ((f : Fault) × (answered fs n ≡ Refused f))
+unfolding All answered
+found [] n = inl tt
+found (t ∷ ts) n = elim (either (t .1)) [
+  | inl e ↦ inr (t .0, rw e)
+  | inr e ↦ elim (found ts n) [ inl h ↦ inl (e, h) | inr r ↦ inr (r .0, rw e (r .1)) ]
+]
+
+-- the call is done: no fault was found, and the plan is in the slice
+pub record Planning (faults : Faults) (ss : List Store) (p : Planned) : Type 0 where
+  pub passed : All Passed faults
+  pub answers : p .answer ≡ Done (length ss)
+  pub plans : planOf p ≡ ss
+
+-- it is refused, and there is no plan
+pub record Refusing (p : Planned) : Type 0 where
+  pub fault : Fault
+  pub answers : p .answer ≡ Refused fault
+  pub plans : planOf p ≡ []
+
+pub planned-either : (faults : Faults) (ss : List Store) (slice : List ℕ) → let p : Planned = planned faults ss slice in Planning faults ss p ⊎ Refusing p
+unfolding planned planOf unlessRefused counted All
+planned-either faults ss slice =
+    let last : Faults = (PlanLength, ltb (length slice) (2 * length ss)) ∷ [] in
+    elim (found (faults ++ last) (length ss)) [
+      | inl h ↦
+          let done = answered-passed (faults ++ last) (length ss) h in
+          inl (record {
+            passed = all-left Passed faults last h;
+            answers = done;
+            plans = rw done (paired-laid slice ss (ltb-false (length slice) (2 * length ss) (all-right Passed faults last h .0)));
+          })
+      | inr r ↦ inr (record { fault = r .0; answers = r .1; plans = rw (r .1) })
+    ]
+
+-- ---- Cuts
+
+-- what is so of each store is so of each that arrived
+pub all-chosen : (P : Store → Type 0) (p : ℕ → Bool) (ss : List Store) → All P ss → All P (chosen p ss)
+unfolding All chosen consIf
+all-chosen P p [] h = tt
+all-chosen P p (s ∷ ss) h = elim (either (p 0)) [
+  | inl e ↦ rw e (h .0, all-chosen P (λ i. p (suc i)) ss (h .1))
+  | inr e ↦ rw e (all-chosen P (λ i. p (suc i)) ss (h .1))
+]
+
+-- what stands after a cut in a plan, by its epochs
+pub standing-epochs : (ss : List Store) (es : List (List Store)) (x : Cut) (b : List ℕ) → epochs ss ≡ es
+    → standing ss x b ≡ performed (performed b (concat (take (x .epoch) es))) (chosen (x .arrived) (getD es (x .epoch) []))
+unfolding standing
+standing-epochs ss es x b e = rw e
+
+-- without pairs the lent board stands
+pub standing-none : (x : Cut) (b : List ℕ) → standing [] x b ≡ b
+unfolding standing epochs concat chosen performed
+standing-none x b = rw (take-nil {A = List Store} (x .epoch))

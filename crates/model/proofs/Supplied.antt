@@ -1,0 +1,69 @@
+-- Fresh blocks: what is asked of them, and that the board's free blocks meet it.
+use mathlib.Core.Path.{_≡_, refl, sym, ap, _∙_, subst}
+use mathlib.Core.Logic.{_≢_, inl, inr}
+use mathlib.Core.Bool.{Bool, true, _||_}
+use mathlib.Core.List.{List, [], _∷_}
+use Prim.Native.Nat.{ℕ, zero, suc, _+_, _-_, _*_, _/_, _≤_, _<_}
+use native.Mathlib.Omega.{arith}
+use lib.ListN.{length, getD}
+use lib.Dec.{T}
+use Rattle.model.specs.Lists.{sum, some, member}
+use Rattle.model.specs.Layout.{Layout, Fits, files}
+use Rattle.model.specs.Board.{blockCount, liveBlocks, free}
+use Rattle.model.specs.Store.{Store}
+use Rattle.model.specs.Hidden.{hiddenInFile, hidden}
+use Rattle.model.specs.Fresh.{Page, stored}
+use Rattle.model.specs.Calls.{lowest}
+use Rattle.model.proofs.Cases.{split}
+use Rattle.model.proofs.Counting.{occ}
+use Rattle.model.proofs.Perform.{All, address-block, stored-blocks, block-on}
+use Rattle.model.proofs.Built.{used}
+use Rattle.model.proofs.Addresses.{all-map, used-none, used-once}
+use Rattle.model.proofs.Formatted.{Counted}
+use Rattle.model.proofs.Shown.{Same, words-pos, same-count, same-live}
+use Rattle.model.proofs.Census.{FreeBlock, free-at, free-rises, free-member}
+
+-- the blocks fresh i with i < lim differ and lie in 1 to B − 2; those with c ≤ i are not live
+pub record Supply (g : Layout) (b : List ℕ) (fresh : ℕ → ℕ) (c lim : ℕ) : Type 0 where
+  pub nonzero : (i : ℕ) → i < lim → 0 < fresh i
+  pub below : (i : ℕ) → i < lim → fresh i < blockCount g b - 1
+  pub apart : (i j : ℕ) → i < j → j < lim → fresh i ≢ fresh j
+  pub spare : (i : ℕ) → c ≤ i → i < lim → occ (fresh i) (liveBlocks g b) ≡ 0
+
+-- *Fresh blocks are taken lowest number first*
+pub supply-lowest : (g : Layout) (b : List ℕ) → Supply g b (lowest g b) 0 (length (free g b))
+unfolding lowest
+supply-lowest g b = record {
+  nonzero = λ i l. free-at g b i l .0;
+  below = λ i l. free-at g b i l .1;
+  apart = λ i j u v e. omega (arith, free-rises g b i j u v);
+  spare = λ i u l. free-at g b i l .2;
+}
+
+module _ (g : Layout) (b : List ℕ) (fresh : ℕ → ℕ) (c lim : ℕ) (ok : Supply g b fresh c lim) where
+  -- on a board that shows the same
+  pub supply-same : Fits g → (b′ : List ℕ) → Same g b b′ → Supply g b′ fresh c lim
+  supply-same fit b′ s = record {
+    nonzero = ok .nonzero;
+    below = λ i l. rw (← (same-count g fit b b′ s)) (ok .below i l);
+    apart = ok .apart;
+    spare = λ i u l. rw (← (same-live g fit b b′ s)) (ok .spare i u l);
+  }
+
+  -- a live block is none of them
+  pub supply-live : (q m : ℕ) → c + m ≤ lim → 0 < occ q (liveBlocks g b) → used fresh q c m ≡ 0
+  supply-live q m room live = used-none fresh q c m (λ i u v e. omega (arith, ok .spare i u (omega arith), subst (λ (x : ℕ). 0 < occ x (liveBlocks g b)) e live))
+
+  -- live and fresh blocks are met once
+  pub supply-once : ((q : ℕ) → occ q (liveBlocks g b) ≤ 1) → (m : ℕ) → c + m ≤ lim → (q : ℕ) → occ q (liveBlocks g b) + used fresh q c m ≤ 1
+  supply-once once m room q = elim (split (occ q (liveBlocks g b)) 0) [
+    | inl z ↦ omega (arith, used-once fresh q c m (λ i j u v w. ok .apart i j v (omega arith)))
+    | inr z ↦ omega (arith, once q, supply-live q m room z)
+  ]
+
+  -- stores to them are hidden
+  pub stored-hidden : Fits g → (ps : List Page) → c + length ps ≤ lim → All (λ s. T (hidden g b s)) (stored (g .words) fresh ps c)
+  unfolding hidden
+  stored-hidden fit ps room = all-map (λ s. FreeBlock g b (s .at / g .words)) (λ s. T (hidden g b s)) (λ s k. rw (free-member g b (s .at / g .words) k) tt) (stored (g .words) fresh ps c)
+      (stored-blocks (g .words) fresh (λ x. FreeBlock g b (x / g .words)) ps c
+      (λ i j u v l. rw (address-block (g .words) (fresh i) j l) (ok .nonzero i (omega arith), ok .below i (omega arith), ok .spare i u (omega arith))))
