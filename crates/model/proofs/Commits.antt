@@ -16,10 +16,10 @@ use Rattle.model.specs.Fresh.{splice}
 use Rattle.model.proofs.Cases.{split, decide, and-both, tabulate-cong}
 use Rattle.model.proofs.Sums.{sum-le, sum-add, only, only-same, only-other, sum-only}
 use Rattle.model.proofs.Counting.{one, occ}
-use Rattle.model.proofs.Agree.{byteAt, agree, seen-live, seen-dead, blocks-none, byteAt-past}
+use Rattle.model.proofs.Agree.{byteAt, agree, agree-none, agree-trans, seen-live, seen-dead, blocks-none, byteAt-past}
 use Rattle.model.proofs.Changed.{Changed}
 use Rattle.model.proofs.Grown.{Grown}
-use Rattle.model.proofs.Shown.{rootByte, root-byte-in, root-byte-past, contents-bytes, root-blocks, root-byte, root-sound, words-pos, occ-live}
+use Rattle.model.proofs.Shown.{Same, rootByte, root-byte-in, root-byte-past, contents-bytes, root-blocks, root-byte, root-sound, words-pos, occ-live}
 use Rattle.model.proofs.Accepting.{Accepted, accepted-parts, parts-accepted, file-parts, root-sound-parts}
 
 -- file f is sound on b₂, reads `wanted`, and has its blocks of b and at most the extra ones
@@ -67,6 +67,10 @@ module _ (g : Layout) (b b₂ : List ℕ) where
   })
 
 -- ---- What a file becomes
+
+-- m bytes: those of file f, with `new` at o
+abbrev pub spliced : (g : Layout) (b : List ℕ) (f o : ℕ) (new : List ℕ) (m : ℕ) → List ℕ
+spliced g b f o new m = tabulate m (λ i. splice o new (seen (size g b f - i) (rootByte (g .words) b (root g b f) (size g b f) i)) i)
 
 module _ (g : Layout) (fit : Fits g) (b b₂ : List ℕ) (len : length b ≡ length b₂) (f : ℕ) where
   pos : 0 < g .words
@@ -123,10 +127,6 @@ module _ (g : Layout) (fit : Fits g) (b b₂ : List ℕ) (len : length b ≡ len
     pub past : (i : ℕ) → span (g .words) h ≤ i → i < m → splice o new 0 i ≡ 0
     pub change : Changed (g .words) b b₂ (blockCount g b - 1) h k (root g b₂ f / g .words) (size g b f) m o new extra
 
-  -- the bytes that it then has
-  abbrev pub spliced : ℕ → List ℕ → ℕ → List ℕ
-  spliced o new m = tabulate m (λ i. splice o new (seen (size g b f - i) (rootByte (g .words) b (root g b f) (size g b f) i)) i)
-
   module _ (h k o m : ℕ) (new : List ℕ) (extra : ℕ → ℕ) (w : Written h k o m new extra) where
     written-byte : (i : ℕ) → i < m → rootByte (g .words) b₂ (root g b₂ f) m i ≡ splice o new (seen (size g b f - i) (rootByte (g .words) b (root g b f) (size g b f) i)) i
     written-byte i l =
@@ -143,7 +143,7 @@ module _ (g : Layout) (fit : Fits g) (b b₂ : List ℕ) (len : length b ≡ len
               root-byte-in (g .words) b₂ (root g b₂ f) m i (rw (w .height) l′) ∙ now ∙ ap (λ (x : ℕ). splice o new x i) (had-byte h k i (w .old) l′)
         ]
 
-    pub written-commit : T (sound (g .words) b (blockCount g b - 1) h k (size g b f)) → FileCommit g b b₂ f (spliced o new m) extra
+    pub written-commit : T (sound (g .words) b (blockCount g b - 1) h k (size g b f)) → FileCommit g b b₂ f (spliced g b f o new m) extra
     unfolding fileSound fileBlocks rootBlocks
     written-commit t = record {
       sound = rw (w .now, ← count-same) (and-both (leb m (greatest g)) (rootSound (g .words) b₂ (g .height) (blockCount g b - 1) (root g b₂ f) m) (le→leb m (greatest g) (w .most))
@@ -175,6 +175,17 @@ pub record Others (g : Layout) (b b₂ : List ℕ) (f : ℕ) : Type 0 where
   pub sizes : (i : ℕ) → i < files g → i ≢ f → size g b i ≡ size g b₂ i
   pub roots : (i : ℕ) → i < files g → i ≢ f → 0 < size g b i → root g b i ≡ root g b₂ i
   pub trees : (i : ℕ) → i < files g → i ≢ f → agree (g .words) b b₂ (root g b i % g .words) (root g b i / g .words) (size g b i)
+
+-- on a board that shows the same as b
+pub others-from : (g : Layout) → 0 < g .words → (b c b₂ : List ℕ) (f : ℕ) → Same g b c → Others g c b₂ f → Others g b b₂ f
+others-from g pos b c b₂ f s o = record {
+  sizes = λ i u d. s .sizes i u ∙ o .sizes i u d;
+  roots = λ i u d live. s .roots i u live ∙ o .roots i u d (rw (← (s .sizes i u)) live);
+  trees = λ i u d. elim (split (size g b i) 0) [
+    | inl z ↦ agree-none (g .words) pos b b₂ (root g b i % g .words) (root g b i / g .words) (size g b i) (omega arith)
+    | inr live ↦ agree-trans (g .words) pos b c b₂ (root g b i % g .words) (root g b i / g .words) (size g b i) (s .trees i u) (rw (s .roots i u live, s .sizes i u) (o .trees i u d))
+  ];
+}
 
 -- file f alone is changed, and with it its leaf may move: `beside` and `within` count the extra blocks of the two
 pub record OneFile (g : Layout) (b b₂ : List ℕ) (f : ℕ) (wanted : List ℕ) (beside within : ℕ → ℕ) : Type 0 where

@@ -12,11 +12,14 @@ pub mod Splice
 pub mod Changed
 pub mod Built
 pub mod Addresses
+pub mod InPlaceStores
+pub mod Altering
 pub mod Shrunk
 pub mod Grown
 pub mod Live
 pub mod Walks
 pub mod Shown
+pub mod Descent
 pub mod Refusals
 pub mod Perform
 pub mod Epochs
@@ -28,6 +31,8 @@ pub mod Safety
 pub mod Steps
 pub mod Commits
 pub mod Apart
+pub mod Committing
+pub mod GoodSteps
 pub mod Supplied
 pub mod Alike
 pub mod BootPlans

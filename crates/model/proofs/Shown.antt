@@ -30,7 +30,7 @@ use Rattle.model.proofs.Agree.{byteAt, spanByte, agree, seen-live, span
 
 module _ (W : ℕ) (pos : 0 < W) where
   -- a byte's place in its data block is the same in each tree above it
-  place-in-block : (h i : ℕ) → i % span W h % span W 0 ≡ i % span W 0
+  pub place-in-block : (h i : ℕ) → i % span W h % span W 0 ≡ i % span W 0
   unfolding span
   place-in-block h i = rw (span-blocks W pos h, mod-mul i (spanned-pos W pos h) (block-pos W pos)) (digits-mod (i / (8 * W) % W ^ h) (mod-lt i (block-pos W pos)))
 
@@ -134,24 +134,48 @@ pub record Same (g : Layout) (b b′ : List ℕ) : Type 0 where
 pub words-pos : (g : Layout) → Fits g → 0 < g .words
 words-pos g fit = omega (arith, fit .trailer-fits)
 
-module _ (g : Layout) (fit : Fits g) (b b′ : List ℕ) (s : Same g b b′) where
-  W : ℕ
-  W = g .words
+-- boards of one length with the same words in the trailer, and where an inode pointer is the same
+module _ (g : Layout) (fit : Fits g) (b b′ : List ℕ) (len : length b ≡ length b′) where
+  pub count-kept : blockCount g b ≡ blockCount g b′
+  unfolding blockCount
+  count-kept = ap (λ (x : ℕ). x / g .words) len
 
+  pub leaf-kept : (l : ℕ) → inodePointer g b l ≡ inodePointer g b′ l → leaf g b l ≡ leaf g b′ l
+  unfolding leaf
+  leaf-kept l e = ap (λ (x : ℕ). x / g .words) e
+
+  pub leaf-sound-kept : (l : ℕ) → inodePointer g b l ≡ inodePointer g b′ l → leafSound g b l ≡ leafSound g b′ l
+  unfolding leafSound inRange
+  leaf-sound-kept l e = rw (e, leaf-kept l e, count-kept)
+
+  module _ (trailers : (j : ℕ) → j < g .words → trailer g b j ≡ trailer g b′ j) where
+    pub inode-kept : inodeBlock g b ≡ inodeBlock g b′
+    unfolding inodeBlock
+    inode-kept = ap (λ (x : ℕ). x / g .words) (trailers 0 (words-pos g fit))
+
+    pub trailer-kept : trailerSound g b ≡ trailerSound g b′
+    unfolding trailerSound inRange
+    trailer-kept =
+        let rest : every (g .words - 1) (λ j. eqb (trailer g b (suc j)) (trailerWord g (blockCount g b) (suc j))) ≡ every (g .words - 1) (λ j. eqb (trailer g b′ (suc j)) (trailerWord g (blockCount g b′) (suc j))) =
+        every-cong (g .words - 1) _ _ (λ j h. rw (trailers (suc j) (omega arith), count-kept)) in
+        rw (rest, trailers 0 (words-pos g fit), inode-kept, count-kept)
+
+module _ (g : Layout) (fit : Fits g) (b b′ : List ℕ) (s : Same g b b′) where
   pos : 0 < g .words
   pos = words-pos g fit
 
   pub same-count : blockCount g b ≡ blockCount g b′
-  unfolding blockCount
-  same-count = ap (λ (x : ℕ). x / g .words) (s .lengths)
+  same-count = count-kept g fit b b′ (s .lengths)
 
   pub same-inode : inodeBlock g b ≡ inodeBlock g b′
-  unfolding inodeBlock
-  same-inode = ap (λ (x : ℕ). x / g .words) (s .trailers 0 pos)
+  same-inode = inode-kept g fit b b′ (s .lengths) (s .trailers)
 
   pub same-leaf : (l : ℕ) → l < g .leaves → leaf g b l ≡ leaf g b′ l
-  unfolding leaf
-  same-leaf l h = ap (λ (x : ℕ). x / g .words) (s .pointers l h)
+  same-leaf l h = leaf-kept g fit b b′ (s .lengths) l (s .pointers l h)
+
+  pub same-address : (f : ℕ) → f / g .inodes < g .leaves → rootAddress g b f ≡ rootAddress g b′ f
+  unfolding rootAddress
+  same-address f h = ap (λ (x : ℕ). g .words * x + 2 * (f % g .inodes)) (same-leaf (f / g .inodes) h)
 
   same-blocks : (f : ℕ) → f < files g → fileBlocks g b f ≡ fileBlocks g b′ f
   unfolding fileBlocks
@@ -182,28 +206,17 @@ module _ (g : Layout) (fit : Fits g) (b b′ : List ℕ) (s : Same g b b′) whe
   unfolding wordCountSound
   same-word-count = rw (s .lengths)
 
-  same-trailer : trailerSound g b ≡ trailerSound g b′
-  unfolding trailerSound inRange
-  same-trailer =
-      let rest : every (g .words - 1) (λ j. eqb (trailer g b (suc j)) (trailerWord g (blockCount g b) (suc j))) ≡ every (g .words - 1) (λ j. eqb (trailer g b′ (suc j)) (trailerWord g (blockCount g b′) (suc j))) =
-      every-cong (g .words - 1) _ _ (λ j h. rw (s .trailers (suc j) (omega arith), same-count)) in
-      rw (rest, s .trailers 0 pos, same-inode, same-count)
-
-  same-leaf-sound : (l : ℕ) → l < g .leaves → leafSound g b l ≡ leafSound g b′ l
-  unfolding leafSound inRange
-  same-leaf-sound l h = rw (s .pointers l h, same-leaf l h, same-count)
-
   same-trees : treesSound g b ≡ treesSound g b′
   unfolding treesSound
-  same-trees = ap₂ _&&_ (ap₂ _&&_ (every-cong (g .leaves) (leafSound g b) (leafSound g b′) same-leaf-sound) (every-cong (files g) (fileSound g b) (fileSound g b′) same-file)) (ap distinct same-live)
+  same-trees = ap₂ _&&_ (ap₂ _&&_ (every-cong (g .leaves) (leafSound g b) (leafSound g b′) (λ l h. leaf-sound-kept g fit b b′ (s .lengths) l (s .pointers l h))) (every-cong (files g) (fileSound g b) (fileSound g b′) same-file)) (ap distinct same-live)
 
   pub same-accepted : accepted g b ≡ accepted g b′
   unfolding accepted
-  same-accepted = rw (same-word-count, same-trailer, same-trees)
+  same-accepted = rw (same-word-count, trailer-kept g fit b b′ (s .lengths) (s .trailers), same-trees)
 
   same-check : checkAnswer g b ≡ checkAnswer g b′
   unfolding checkAnswer boardFaults wordCountFault
-  same-check = rw (same-word-count, same-trailer, same-trees)
+  same-check = rw (same-word-count, trailer-kept g fit b b′ (s .lengths) (s .trailers), same-trees)
 
   -- so it shows the same
   pub same-shows : Shows g b b′

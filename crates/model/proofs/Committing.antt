@@ -1,0 +1,53 @@
+-- One word of a file's inode or tree stored on a board that shows what an accepted one shows: the file becomes something else, and nothing else does.
+use mathlib.Core.Path.{_≡_, sym, ap, _∙_}
+use mathlib.Core.List.{List}
+use Prim.Native.Nat.{ℕ, _+_, _/_, _≤_, _<_}
+use native.Mathlib.Omega.{arith}
+use lib.ListN.{length, length-set, set}
+use lib.Dec.{T}
+use Rattle.model.specs.Layout.{Layout, Fits, files}
+use Rattle.model.specs.Board.{trailer, inodePointer, leaf, liveBlocks, accepted}
+use Rattle.model.proofs.Counting.{one, occ}
+use Rattle.model.proofs.Shown.{Same, words-pos, leaf-of, same-accepted, trailer-kept, inode-kept, leaf-kept, leaf-sound-kept}
+use Rattle.model.proofs.Accepting.{accepted-parts, Facts, facts}
+use Rattle.model.proofs.Commits.{FileCommit, OneFile, Outcome, one-file, others-from}
+use Rattle.model.proofs.Apart.{Spot, spot-trailer, spot-pointer, spot-others}
+
+module _ (g : Layout) (fit : Fits g) (b c : List ℕ) (t : T (accepted g b)) (same : Same g b c) where
+  pub accepted-same : T (accepted g c)
+  accepted-same = rw (← (same-accepted g fit b c same)) t
+
+  -- facts of a board that shows the same
+  pub facts-same : Facts g c
+  facts-same = facts g fit c accepted-same
+
+  module _ (f : ℕ) (f-lt : f < files g) (a v : ℕ) (s : Spot g fit c facts-same f f-lt a) where
+    abbrev b₂ : List ℕ
+    b₂ = set c a v
+
+    len : length b ≡ length b₂
+    len = same .lengths ∙ sym (length-set c a v)
+
+    trailers : (j : ℕ) → j < g .words → trailer g b j ≡ trailer g b₂ j
+    trailers j l = same .trailers j l ∙ spot-trailer g fit c facts-same f f-lt a v s j l
+
+    pointers : (l : ℕ) → l < g .leaves → inodePointer g b l ≡ inodePointer g b₂ l
+    pointers l u = same .pointers l u ∙ spot-pointer g fit c facts-same f f-lt a v s l u
+
+    pub spot-commit : (wanted : List ℕ) (extra : ℕ → ℕ) → FileCommit g b b₂ f wanted extra → ((q : ℕ) → occ q (liveBlocks g b) + extra q ≤ 1) → Outcome g b b₂ f wanted
+    spot-commit wanted extra file spare =
+        let parts = accepted-parts g b t in
+        let stays : (l : ℕ) → l < g .leaves → leaf g b l ≡ leaf g b₂ l = λ l u. leaf-kept g fit b b₂ len l (pointers l u) in
+        one-file g fit b b₂ f wanted (λ q. 0) extra
+        (record {
+          lengths = len;
+          trailers = rw (← (trailer-kept g fit b b₂ len trailers)) (parts .trailers);
+          inode = inode-kept g fit b b₂ len trailers;
+          leaves = λ l u. rw (← (leaf-sound-kept g fit b b₂ len l (pointers l u))) (parts .leaves l u);
+          leaves-stay = λ l u d. stays l u;
+          leaf-moved = λ q. omega (arith, ap (one q) (stays (f / g .inodes) (leaf-of g fit f f-lt)));
+          others = others-from g (words-pos g fit) b c b₂ f same (spot-others g fit c facts-same f f-lt a v s);
+          file = file;
+          spare = λ q. omega (arith, spare q);
+        })
+        t
