@@ -228,7 +228,7 @@ module _ (W : ℕ) (pos : 0 < W) where
   -- ---- a store that alters nothing visible still does so after others that agree
 
   -- what is read off a word, f, is not altered by the store
-  dark-word : (f : ℕ → ℕ) (b c : List ℕ) (a v x : ℕ) → length b ≡ length c
+  pub dark-word : (f : ℕ → ℕ) (b c : List ℕ) (a v x : ℕ) → length b ≡ length c
       → f (getD b x 0) ≡ f (getD c x 0) → f (getD b x 0) ≡ f (getD (set b a v) x 0) → f (getD c x 0) ≡ f (getD (set c a v) x 0)
   dark-word f b c a v x len p d = elim (decide x a) [
     | inl e ↦ elim (split (length b) a) [

@@ -126,12 +126,16 @@ module _ (g : Layout) (fit : Fits g) (b : List ℕ) (ok : Facts g b) where
       | inr t ↦ file-not-inode g b (ok .once) f (a / g .words) f-lt t (sym x)
     ]
 
+    -- an address in the tree is in no inode
+    pub tree-not-inode-of : (a : ℕ) → 0 < occ (a / g .words) (fileBlocks g b f) → (i d : ℕ) → i < files g → d ≤ 1 → rootAddress g b i + d ≢ a
+    tree-not-inode-of a t i d u l x =
+        file-not-leaf g b (ok .once) f (a / g .words) f-lt t (i / g .inodes) (leaf-of g fit i u) (ap (λ (y : ℕ). y / g .words) (sym x) ∙ inode-block-of i d l)
+
     spot-not-inode-of : (a : ℕ) → Spot a → (i d : ℕ) → i < files g → i ≢ f → d ≤ 1 → rootAddress g b i + d ≢ a
     unfolding sizeAddress
     spot-not-inode-of a (inl (inl e)) i d u ne l x = inodes-apart i f d 0 u f-lt ne l (omega arith) (x ∙ e ∙ sym (add-zero (rootAddress g b f)))
     spot-not-inode-of a (inl (inr e)) i d u ne l x = inodes-apart i f d 1 u f-lt ne l (omega arith) (x ∙ e)
-    spot-not-inode-of a (inr t) i d u ne l x =
-        file-not-leaf g b (ok .once) f (a / g .words) f-lt t (i / g .inodes) (leaf-of g fit i u) (ap (λ (y : ℕ). y / g .words) (sym x) ∙ inode-block-of i d l)
+    spot-not-inode-of a (inr t) i d u ne l x = tree-not-inode-of a t i d u l x
 
     spot-not-file : (a : ℕ) → Spot a → (i : ℕ) → i < files g → i ≢ f → occ (a / g .words) (fileBlocks g b i) ≡ 0
     spot-not-file a s i u d = elim (spot-block a s) [

@@ -1,6 +1,5 @@
 -- A step of a plan that is as it must be: its hidden stores are hidden and go to different words, its commit leaves the board accepted, the file
 -- reading as wanted and the others as before.
-use mathlib.Core.Path.{refl}
 use mathlib.Core.List.{List, [], _∷_}
 use Prim.Native.Nat.{ℕ, _+_, _*_, _/_, _%_, _≤_, _<_}
 use native.Mathlib.Omega.{arith}
@@ -13,8 +12,6 @@ use Rattle.model.specs.Plan.{Step, step}
 use Rattle.model.proofs.Counting.{occ}
 use Rattle.model.proofs.Perform.{All}
 use Rattle.model.proofs.Addresses.{addresses, all-holds}
-use Rattle.model.proofs.Agree.{agree-refl}
-use Rattle.model.proofs.Shown.{Same, words-pos}
 use Rattle.model.proofs.Accepting.{Ranged}
 use Rattle.model.proofs.Commits.{Outcome}
 use Rattle.model.proofs.Steps.{committed, SafeStep}
@@ -27,13 +24,3 @@ pub record GoodStep (g : Layout) (b : List ℕ) (f : ℕ) (p : Step) (wanted : L
 
 pub good-safe : (g : Layout) (b : List ℕ) (f : ℕ) (p : Step) (wanted : List ℕ) → GoodStep g b f p wanted → SafeStep g b f p
 good-safe g b f p wanted s = record { hides = all-holds (hidden g b) (p .hidden) (s .hides); accepts = s .outcome .board; others = λ i u d. s .outcome .kept i u d }
-
-pub same-refl : (g : Layout) → Fits g → (b : List ℕ) → Same g b b
-same-refl g fit b = record {
-  lengths = refl;
-  trailers = λ j l. refl;
-  pointers = λ l u. refl;
-  sizes = λ f u. refl;
-  roots = λ f u live. refl;
-  trees = λ f u. agree-refl (g .words) (words-pos g fit) b _ _ _;
-}

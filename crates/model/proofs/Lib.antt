@@ -27,12 +27,16 @@ pub mod Formatted
 pub mod FormatCut
 pub mod Accepting
 pub mod Census
+pub mod Visible
+pub mod Ranges
+pub mod HiddenStores
 pub mod Safety
 pub mod Steps
 pub mod Commits
 pub mod Apart
 pub mod Committing
 pub mod GoodSteps
+pub mod InsideWays
 pub mod Supplied
 pub mod Alike
 pub mod BootPlans

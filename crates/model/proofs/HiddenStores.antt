@@ -1,0 +1,299 @@
+-- Hidden stores: a board on which any of some stores are performed, each of them hidden, shows the same.
+use mathlib.Core.Path.{_≡_, refl, sym, ap, _∙_, subst}
+use mathlib.Core.Logic.{_≢_, _⊎_, inl, inr}
+use mathlib.Core.Bool.{Bool, true, false, not, _&&_, _||_}
+use mathlib.Core.List.{List, [], _∷_}
+use Prim.Native.Nat.{ℕ, zero, suc, _+_, _-_, _*_, _/_, _%_, _≤_, _<_}
+use native.Mathlib.Omega.{arith}
+use native.Mathlib.Nat.{mul-comm}
+use lib.ListN.{length, getD, set, length-set}
+use lib.Seq.{getD-set-same, getD-set-other, set-out}
+use lib.Arith.{digits-mod}
+use lib.Dec.{T, leb, eqb, leb→le, eqb→eq}
+use lib.Ieee.Bits.{is-true}
+use Rattle.model.specs.Lists.{some, all, sum, consIf, member}
+use Rattle.model.specs.Words.{byteOf}
+use Rattle.model.specs.Layout.{Layout, Fits, files}
+use Rattle.model.specs.Tree.{live, span, cell, link, blocks}
+use Rattle.model.specs.Board.{rootBlocks, blockCount, inodeBlock, leaf, rootAddress, sizeAddress, rootHeight, rootBlock, size, fileBlocks, liveBlocks, free, accepted}
+use Rattle.model.specs.Store.{Store, performed}
+use Rattle.model.specs.Hidden.{keepsBytes, hiddenUnder, hiddenInFile, hidden}
+use Rattle.model.specs.Cut.{chosen}
+use Rattle.model.specs.Claims.{HiddenRule}
+use Rattle.model.proofs.Cases.{split, decide, and-left, and-right, every-of}
+use Rattle.model.proofs.Sums.{sum-at, sum-two}
+use Rattle.model.proofs.Counting.{one, occ, one-same}
+use Rattle.model.proofs.Trees.{childBlocks}
+use Rattle.model.proofs.Perform.{All, address-block}
+use Rattle.model.proofs.Agree.{agree, agree-away, cell-away, beneath, occ-node}
+use Rattle.model.proofs.Shown.{Same, words-pos, occ-live, file-live, leaf-of, same-shows}
+use Rattle.model.proofs.Accepting.{Ranged, Facts, facts}
+use Rattle.model.proofs.Census.{FreeBlock, member-free}
+use Rattle.model.proofs.Visible.{Visible, trailer-word, pointer-word, size-word, root-word, TreeSame, Unseen, directory, occ-directory, leaf-directory, root-block, size-block, visible-block, frame-same, store-same, unseen-same}
+use Rattle.model.proofs.Ranges.{file-range, root-once}
+
+-- ---- tests
+
+or-cases : (s t : Bool) → T (s || t) → T s ⊎ T t
+or-cases true t h = inl tt
+or-cases false t h = inr h
+
+some-of : (m : ℕ) (p : ℕ → Bool) → T (some m p) → (j : ℕ) × (j < m) × T (p j)
+unfolding some
+some-of zero p h = absurd h
+some-of (suc m) p h = elim (or-cases (some m p) (p m) h) [
+  | inl u ↦ let c = some-of m p u in (c .0, omega (arith, c .1), c .2)
+  | inr u ↦ (m, omega arith, u)
+]
+
+dead-zero : (n : ℕ) → T (not (live n)) → n ≡ 0
+unfolding live
+dead-zero zero t = refl
+dead-zero (suc n) t = absurd t
+
+kept-byte : (n j x w i : ℕ) → i < 8 → 8 * j + i < n → T (keepsBytes n j x w) → byteOf w i ≡ byteOf x i
+unfolding keepsBytes
+kept-byte n j x w i l v t = elim (or-cases (leb n (8 * j + i)) (eqb (byteOf w i) (byteOf x i)) (every-of 8 _ t i l)) [
+  | inl past ↦ absurd (omega (arith, leb→le n (8 * j + i) past))
+  | inr same ↦ eqb→eq (byteOf w i) (byteOf x i) same
+]
+
+-- a word's place in its block, from its address
+address-place : (W k j : ℕ) → j < W → (W * k + j) % W ≡ j
+address-place W k j l = rw (mul-comm W k) (digits-mod k l)
+
+-- ---- trees
+
+module _ (W : ℕ) (pos : 0 < W) (b : List ℕ) where
+  occ-children : (h k n x : ℕ) → occ x (blocks W b (suc h) (suc k) (suc n)) ≡ one x (suc k) + sum W (λ j. occ x (childBlocks W b h (suc k) (suc n) j))
+  unfolding beneath link
+  occ-children h k n x = occ-node W pos b h (suc k) (suc n) x (omega arith) (omega arith)
+
+  occ-child : (h k n x j : ℕ) → j < W → one x (suc k) + occ x (childBlocks W b h (suc k) (suc n) j) ≤ occ x (blocks W b (suc h) (suc k) (suc n))
+  occ-child h k n x j l = omega (arith, occ-children h k n x, sum-at W (λ i. occ x (childBlocks W b h (suc k) (suc n) i)) j l)
+
+module _ (W : ℕ) (pos : 0 < W) (b : List ℕ) (s : Store) where
+  -- the store at a live pointer block: at one of its pointers, which is not live, or further down
+  hidden-cases : (h k n : ℕ) → T (hiddenUnder W b s (suc h) (suc k) (suc n))
+      → ((s .at / W ≡ suc k) × (suc n ≤ s .at % W * span W h)) ⊎ ((j : ℕ) × (j < W) × T (hiddenUnder W b s h (cell W b (suc k) j / W) (suc n - j * span W h)))
+  unfolding hiddenUnder
+  hidden-cases h k n t =
+      let m : ℕ = suc n - s .at % W * span W h in
+      let here : Bool = eqb (s .at / W) (suc k) in
+      let further : ℕ → Bool = λ j. hiddenUnder W b s h (cell W b (suc k) j / W) (suc n - j * span W h) in
+      elim (or-cases (here && not (live m)) (some W further) t) [
+        | inl u ↦ inl (eqb→eq (s .at / W) (suc k) (and-left here (not (live m)) u), omega (arith, dead-zero m (and-right here (not (live m)) u)))
+        | inr u ↦ inr (some-of W further u)
+      ]
+
+  data-live : (k n : ℕ) → s .at / W ≡ suc k → 0 < occ (s .at / W) (blocks W b zero (suc k) (suc n))
+  unfolding blocks occ
+  data-live k n e = omega (arith, ap (one (s .at / W)) e, one-same (s .at / W))
+
+  -- it goes to one of the tree's blocks
+  pub hidden-under-inside : (h k n : ℕ) → T (hiddenUnder W b s h k n) → 0 < occ (s .at / W) (blocks W b h k n)
+  unfolding hiddenUnder
+  hidden-under-inside zero zero n t = absurd t
+  hidden-under-inside zero (suc k) zero t = absurd t
+  hidden-under-inside zero (suc k) (suc n) t = data-live k n (eqb→eq (s .at / W) (suc k) (and-left (eqb (s .at / W) (suc k)) _ t))
+  hidden-under-inside (suc h) zero n t = absurd t
+  hidden-under-inside (suc h) (suc k) zero t = absurd t
+  hidden-under-inside (suc h) (suc k) (suc n) t = elim (hidden-cases h k n t) [
+    | inl here ↦ omega (arith, occ-children W pos b h k n (s .at / W), ap (one (s .at / W)) (here .0), one-same (s .at / W))
+    | inr c ↦ omega (arith, occ-child W pos b h k n (s .at / W) (c .0) (c .1), hidden-under-inside h (cell W b (suc k) (c .0) / W) (suc n - c .0 * span W h) (c .2))
+  ]
+
+  -- a byte of a data block, below the size
+  data-byte : (k n i : ℕ) → i < 8 * W → i < n → T (keepsBytes n (s .at % W) (getD b (s .at) 0) (s .value))
+      → byteOf (cell W b k (i / 8)) (i % 8) ≡ byteOf (cell W (set b (s .at) (s .value)) k (i / 8)) (i % 8)
+  unfolding cell
+  data-byte k n i l v t = elim (decide (W * k + i / 8) (s .at)) [
+    | inl e ↦ rw e (elim (split (length b) (s .at)) [
+      | inl out ↦ rw (set-out b (s .at) (s .value) out)
+      | inr on ↦
+          let place : s .at % W ≡ i / 8 = ap (λ (x : ℕ). x % W) (sym e) ∙ address-place W k (i / 8) (omega arith) in
+          rw (getD-set-same b (s .at) (s .value) 0 on) (sym (kept-byte n (s .at % W) (getD b (s .at) 0) (s .value) (i % 8) (omega arith) (omega (arith, place)) t))
+    ])
+    | inr d ↦ rw (getD-set-other b (s .at) (W * k + i / 8) (s .value) 0 d)
+  ]
+
+  -- a pointer that is not live, in a block that is reached once
+  own-dark : (h k n : ℕ) → ((x : ℕ) → occ x (blocks W b (suc h) (suc k) (suc n)) ≤ 1) → s .at / W ≡ suc k → suc n ≤ s .at % W * span W h
+      → agree W b (set b (s .at) (s .value)) (suc h) (suc k) (suc n)
+  unfolding agree link cell
+  own-dark h k n once e dead = λ j l v. (
+    sym (getD-set-other b (s .at) (W * suc k + j) (s .value) 0 (λ x. omega (arith, dead, v, ap (λ (y : ℕ). y * span W h) (sym (address-place W (suc k) j l) ∙ ap (λ (y : ℕ). y % W) x)))),
+    agree-away W pos b (s .at) (s .value) h (cell W b (suc k) j / W) (suc n - j * span W h)
+        (omega (arith, once (s .at / W), occ-child W pos b h k n (s .at / W) j l, ap (one (s .at / W)) e, one-same (s .at / W))),
+  )
+
+  -- and alters nothing that is visible of it
+  pub hidden-under-dark : (h k n : ℕ) → ((x : ℕ) → occ x (blocks W b h k n) ≤ 1) → T (hiddenUnder W b s h k n) → agree W b (set b (s .at) (s .value)) h k n
+  unfolding hiddenUnder agree link
+  hidden-under-dark zero zero n once t = absurd t
+  hidden-under-dark zero (suc k) zero once t = absurd t
+  hidden-under-dark zero (suc k) (suc n) once t = λ i l v.
+      data-byte (suc k) (suc n) i l v (and-right (eqb (s .at / W) (suc k)) (keepsBytes (suc n) (s .at % W) (getD b (s .at) 0) (s .value)) t)
+  hidden-under-dark (suc h) zero n once t = absurd t
+  hidden-under-dark (suc h) (suc k) zero once t = absurd t
+  hidden-under-dark (suc h) (suc k) (suc n) once t = elim (hidden-cases h k n t) [
+    | inl here ↦ own-dark h k n once (here .0) (here .1)
+    | inr c ↦
+        let m : ℕ = suc n - c .0 * span W h in
+        let inside : 0 < occ (s .at / W) (childBlocks W b h (suc k) (suc n) (c .0)) = hidden-under-inside h (cell W b (suc k) (c .0) / W) m (c .2) in
+        let dark : agree W b (set b (s .at) (s .value)) h (cell W b (suc k) (c .0) / W) m =
+        hidden-under-dark h (cell W b (suc k) (c .0) / W) m (λ x. omega (arith, once x, occ-child W pos b h k n x (c .0) (c .1))) (c .2) in
+        λ j l v. (
+          sym (cell-away W pos b (s .at) (s .value) (suc k) j l (λ e. omega (arith, once (s .at / W), occ-child W pos b h k n (s .at / W) (c .0) (c .1), inside, ap (one (s .at / W)) e, one-same (s .at / W)))),
+          elim (decide j (c .0)) [
+            | inl e ↦ subst (λ (i : ℕ). agree W b (set b (s .at) (s .value)) h (cell W b (suc k) i / W) (suc n - i * span W h)) (sym e) dark
+            | inr d ↦ agree-away W pos b (s .at) (s .value) h (cell W b (suc k) j / W) (suc n - j * span W h)
+                (omega (arith, once (s .at / W), occ-children W pos b h k n (s .at / W), inside, sum-two W (λ i. occ (s .at / W) (childBlocks W b h (suc k) (suc n) i)) j (c .0) l (c .1) d))
+          ],
+        )
+  ]
+
+-- ---- boards
+
+all-chosen : (P : Store → Type 0) (arrived : ℕ → Bool) (ss : List Store) → All P ss → All P (chosen arrived ss)
+unfolding chosen All consIf
+all-chosen P arrived [] a = tt
+all-chosen P arrived (s ∷ ss) a = with-first (arrived 0) (all-chosen P (λ i. arrived (suc i)) ss (a .1))
+  where
+    with-first : (t : Bool) → All P (chosen (λ i. arrived (suc i)) ss) → All P (consIf t s (chosen (λ i. arrived (suc i)) ss))
+    with-first true rest = (a .0, rest)
+    with-first false rest = rest
+
+-- where a hidden store goes: to a free block, the root of an empty file, or a file's tree
+data Spot (g : Layout) (b : List ℕ) (s : Store) : Type 0 where
+  free-block : FreeBlock g b (s .at / g .words) → Spot g b s
+  empty-root : (f : ℕ) → f < files g → s .at ≡ rootAddress g b f → size g b f ≡ 0 → Spot g b s
+  in-tree : (f : ℕ) → f < files g → T (hiddenUnder (g .words) b s (rootHeight g b f) (rootBlock g b f) (size g b f)) → Spot g b s
+
+hidden-spot : (g : Layout) (b : List ℕ) (s : Store) → T (hidden g b s) → Spot g b s
+unfolding hidden hiddenInFile
+hidden-spot g b s t =
+    let in-free : Bool = member (s .at / g .words) (free g b) in
+    elim (or-cases in-free (some (files g) (hiddenInFile g b s)) t) [
+      | inl u ↦ free-block (member-free g b (s .at / g .words) (is-true in-free u))
+      | inr u ↦
+          let c = some-of (files g) (hiddenInFile g b s) u in
+          let f : ℕ = c .0 in
+          let here : Bool = eqb (s .at) (rootAddress g b f) in
+          let empty : Bool = eqb (size g b f) 0 in
+          elim (or-cases (here && empty) (hiddenUnder (g .words) b s (rootHeight g b f) (rootBlock g b f) (size g b f)) (c .2)) [
+            | inl r ↦ empty-root f (c .1) (eqb→eq (s .at) (rootAddress g b f) (and-left here empty r)) (eqb→eq (size g b f) 0 (and-right here empty r))
+            | inr r ↦ in-tree f (c .1) r
+          ]
+    ]
+
+module _ (g : Layout) (fit : Fits g) (b : List ℕ) (ok : Facts g b) where
+  -- a visible word outside the trees is in another block than a word of a tree
+  not-in-tree : (f : ℕ) → f < files g → (a : ℕ) → 0 < occ (a / g .words) (fileBlocks g b f) → (x : ℕ) → Visible g b x → x ≢ a
+  not-in-tree f h a o x v e =
+      let same : x / g .words ≡ a / g .words = ap (λ (y : ℕ). y / g .words) e in
+      elim (visible-block g fit b x v) [
+        | inl top ↦ omega (arith, file-range g fit b ok f (a / g .words) h o .1, top, same)
+        | inr d ↦ omega (
+          arith,
+          ok .once (a / g .words),
+          occ-directory g b (a / g .words),
+          sum-at (files g) (λ i. occ (a / g .words) (fileBlocks g b i)) f h,
+          o,
+          ap (directory g b) same,
+          d,
+        )
+      ]
+
+  -- and the root of an empty file is none of the visible words
+  not-empty-root : (f : ℕ) → f < files g → size g b f ≡ 0 → (x : ℕ) → Visible g b x → x ≢ rootAddress g b f
+  unfolding sizeAddress rootAddress
+  not-empty-root f h z x (trailer-word j l) e =
+      omega (arith, ok .leaf-in (f / g .inodes) (leaf-of g fit f h) .1, address-block (g .words) (blockCount g b - 1) j l, ap (λ (y : ℕ). y / g .words) e, root-block g fit b f)
+  not-empty-root f h z x (pointer-word j l) e =
+      let same : inodeBlock g b ≡ leaf g b (f / g .inodes) = sym (address-block (g .words) (inodeBlock g b) j (omega (arith, fit .leaves-fit))) ∙ ap (λ (y : ℕ). y / g .words) e ∙ root-block g fit b f in
+      omega (
+        arith,
+        ok .once (inodeBlock g b),
+        occ-live g b (inodeBlock g b),
+        one-same (inodeBlock g b),
+        sum-at (g .leaves) (λ y. one (inodeBlock g b) (leaf g b y)) (f / g .inodes) (leaf-of g fit f h),
+        ap (one (inodeBlock g b)) same,
+      )
+  not-empty-root f h z x (size-word i l) e =
+      let leaf-same : leaf g b (i / g .inodes) ≡ leaf g b (f / g .inodes) = sym (size-block g fit b i) ∙ ap (λ (y : ℕ). y / g .words) e ∙ root-block g fit b f in
+      omega (arith, e, ap (λ (y : ℕ). g .words * y) leaf-same)
+  not-empty-root f h z x (root-word i l v) e = omega (arith, v, z, ap (size g b) (root-once g fit b ok i f l h e))
+
+module _ (g : Layout) (fit : Fits g) (b : List ℕ) (ok : Facts g b) (s : Store) where
+  free-same : FreeBlock g b (s .at / g .words) → Unseen g b s
+  free-same e = frame-same g fit b (set b (s .at) (s .value)) (sym (length-set b (s .at) (s .value))) (λ k c j l.
+      sym (cell-away (g .words) (words-pos g fit) b (s .at) (s .value) k j l (λ same. elim c [
+        | inl top ↦ omega (arith, e .1, top, same)
+        | inr o ↦ omega (arith, o, e .2, ap (λ (x : ℕ). occ x (liveBlocks g b)) same)
+      ])))
+
+  under-inside : (f : ℕ) → T (hiddenUnder (g .words) b s (rootHeight g b f) (rootBlock g b f) (size g b f)) → 0 < occ (s .at / g .words) (fileBlocks g b f)
+  unfolding fileBlocks rootBlocks
+  under-inside f t = hidden-under-inside (g .words) (words-pos g fit) b s (rootHeight g b f) (rootBlock g b f) (size g b f) t
+
+  tree-away : (f : ℕ) → occ (s .at / g .words) (fileBlocks g b f) ≡ 0 → TreeSame g b (set b (s .at) (s .value)) f
+  unfolding fileBlocks rootBlocks
+  tree-away f o = agree-away (g .words) (words-pos g fit) b (s .at) (s .value) (rootHeight g b f) (rootBlock g b f) (size g b f) o
+
+  tree-dark : (f : ℕ) → f < files g → T (hiddenUnder (g .words) b s (rootHeight g b f) (rootBlock g b f) (size g b f)) → TreeSame g b (set b (s .at) (s .value)) f
+  unfolding fileBlocks rootBlocks
+  tree-dark f h t = hidden-under-dark (g .words) (words-pos g fit) b s (rootHeight g b f) (rootBlock g b f) (size g b f) (λ x. omega (arith, ok .once x, file-live g b f x h)) t
+
+  in-tree-same : (f : ℕ) → f < files g → T (hiddenUnder (g .words) b s (rootHeight g b f) (rootBlock g b f) (size g b f)) → Unseen g b s
+  in-tree-same f h t =
+      let inside : 0 < occ (s .at / g .words) (fileBlocks g b f) = under-inside f t in
+      store-same g fit b (s .at) (s .value) (not-in-tree g fit b ok f h (s .at) inside) (λ i l. elim (decide i f) [
+        | inl e ↦ subst (TreeSame g b (set b (s .at) (s .value))) (sym e) (tree-dark f h t)
+        | inr d ↦ tree-away i (omega (arith, ok .once (s .at / g .words), occ-directory g b (s .at / g .words), inside, sum-two (files g) (λ j. occ (s .at / g .words) (fileBlocks g b j)) i f l h d))
+      ])
+
+  empty-root-same : (f : ℕ) → f < files g → s .at ≡ rootAddress g b f → size g b f ≡ 0 → Unseen g b s
+  empty-root-same f h e z =
+      let k : s .at / g .words ≡ leaf g b (f / g .inodes) = ap (λ (x : ℕ). x / g .words) e ∙ root-block g fit b f in
+      store-same g fit b (s .at) (s .value) (λ x v. rw e (not-empty-root g fit b ok f h z x v)) (λ i l.
+      tree-away i (rw k (omega (
+        arith,
+        ok .once (leaf g b (f / g .inodes)),
+        occ-directory g b (leaf g b (f / g .inodes)),
+        leaf-directory g b (f / g .inodes) (leaf-of g fit f h),
+        sum-at (files g) (λ j. occ (leaf g b (f / g .inodes)) (fileBlocks g b j)) i l,
+      ))))
+
+module _ (g : Layout) (fit : Fits g) (b : List ℕ) (t : T (accepted g b)) where
+  -- a hidden store alters nothing visible
+  pub hidden-same : (s : Store) → T (hidden g b s) → Same g b (set b (s .at) (s .value))
+  hidden-same s u = elim (hidden-spot g b s u) [
+    | free-block e ↦ free-same g fit b (facts g fit b t) s e
+    | empty-root f h e z ↦ empty-root-same g fit b (facts g fit b t) s f h e z
+    | in-tree f h i ↦ in-tree-same g fit b (facts g fit b t) s f h i
+  ]
+
+  -- and goes to a block of 1 to B − 2
+  pub hidden-in-range : (s : Store) → T (hidden g b s) → Ranged g b (s .at / g .words)
+  hidden-in-range s u = elim (hidden-spot g b s u) [
+    | free-block e ↦ (e .0, e .1)
+    | empty-root f h e z ↦ rw (e, root-block g fit b f) (facts g fit b t .leaf-in (f / g .inodes) (leaf-of g fit f h))
+    | in-tree f h i ↦ file-range g fit b (facts g fit b t) f (s .at / g .words) h (under-inside g fit b (facts g fit b t) s f i)
+  ]
+
+  hidden-unseen : (ss : List Store) → T (all (hidden g b) ss) → All (Unseen g b) ss
+  unfolding all All
+  hidden-unseen [] u = tt
+  hidden-unseen (s ∷ ss) u = (hidden-same s (and-left (hidden g b s) (all (hidden g b) ss) u), hidden-unseen ss (and-right (hidden g b s) (all (hidden g b) ss) u))
+
+  -- stores each hidden on b, performed one after the other
+  pub hidden-all-same : (ss : List Store) → T (all (hidden g b) ss) → Same g b (performed b ss)
+  hidden-all-same ss u = unseen-same g fit b ss (hidden-unseen ss u)
+
+  -- and any choice of them
+  pub choice-same : (ss : List Store) → T (all (hidden g b) ss) → (arrived : ℕ → Bool) → Same g b (performed b (chosen arrived ss))
+  choice-same ss u arrived = unseen-same g fit b (chosen arrived ss) (all-chosen (Unseen g b) arrived ss (hidden-unseen ss u))
+
+pub hidden-rule : HiddenRule
+hidden-rule g fit b t ss u arrived = same-shows g fit b (performed b (chosen arrived ss)) (choice-same g fit b t ss u arrived)

@@ -1,0 +1,121 @@
+-- The ways of planning that change a file in one word of its tree: single word, and shadow inside the file.
+use mathlib.Core.Path.{_≡_, refl, sym, ap, _∙_}
+use mathlib.Core.Logic.{_≢_, _⊎_, inl, inr}
+use mathlib.Core.Bool.{true}
+use mathlib.Core.List.{List, [], _∷_}
+use Prim.Native.Nat.{ℕ, zero, suc, _+_, _-_, _*_, _/_, _%_, _≤_, _<_, max}
+use native.Mathlib.Omega.{arith}
+use native.Mathlib.Nat.{add-zero, mod-lt, mod-eq-of-lt, mul-add-mod-self-left}
+use lib.ListN.{length, getD, set, length-set}
+use lib.Seq.{getD-set-same, getD-set-other}
+use lib.Dec.{T}
+use borrow.Author.Tests.{lt-ltb, le-ltb}
+use Rattle.model.specs.declared.WalkEnd.the-variants.{Block, Hole}
+use Rattle.model.specs.Layout.{Layout, Fits, files}
+use Rattle.model.specs.Tree.{span, cell, walk, blocks}
+use Rattle.model.specs.Board.{rootWalk, rootBlocks, greatest, blockCount, leaf, rootAddress, sizeAddress, root, size, walkTo, contents, fileBlocks, liveBlocks, accepted}
+use Rattle.model.specs.Store.{store, performed}
+use Rattle.model.specs.Fresh.{splice, stored}
+use Rattle.model.specs.Plan.{Step, step}
+use Rattle.model.specs.Change.{splicedWord, Shadow, descend}
+use Rattle.model.proofs.Cases.{split, decide}
+use Rattle.model.proofs.Counting.{occ}
+use Rattle.model.proofs.Perform.{All, address-block}
+use Rattle.model.proofs.Addresses.{addresses}
+use Rattle.model.proofs.Spans.{span-pos}
+use Rattle.model.proofs.Splice.{Small, splice-right}
+use Rattle.model.proofs.Changed.{Changed}
+use Rattle.model.proofs.Shown.{Same, words-pos, leaf-of, file-live}
+use Rattle.model.proofs.Accepting.{Facts, facts, address-on-board}
+use Rattle.model.proofs.Commits.{FileCommit, Written, spliced, written-commit, Outcome}
+use Rattle.model.proofs.Apart.{Spot, spot-ranged, spot-root, spot-size, tree-not-inode-of}
+use Rattle.model.proofs.Committing.{facts-same, spot-commit}
+use Rattle.model.proofs.Descent.{Replaced, walk-inside, word-changed}
+use Rattle.model.proofs.Steps.{committed}
+use Rattle.model.proofs.GoodSteps.{GoodStep}
+use Rattle.model.proofs.Visible.{same-refl}
+
+-- a write that ends within the span is zero past it
+pub past-span : (o : ℕ) (new : List ℕ) (s m : ℕ) → o + length new ≤ s → (i : ℕ) → s ≤ i → i < m → splice o new 0 i ≡ 0
+past-span o new s m l i u v = splice-right o new 0 i (omega arith)
+
+module _ (g : Layout) (fit : Fits g) (b : List ℕ) (t : T (accepted g b)) (f : ℕ) (f-lt : f < files g) (o : ℕ) (new : List ℕ) (some : 0 < length new) (small : Small new)
+    (within : o + length new ≤ size g b f) (under : o + length new ≤ span (g .words) (root g b f % g .words)) where
+  ok : Facts g b
+  ok = facts g fit b t
+
+  pos : 0 < g .words
+  pos = words-pos g fit
+
+  tree-once : (q : ℕ) → occ q (fileBlocks g b f) ≤ 1
+  tree-once q = omega (arith, ok .once q, file-live g b f q f-lt)
+
+  -- ---- Single word
+
+  module _ (K : ℕ) (there : walkTo g b f o ≡ Block K) (word : o / 8 ≡ (o + length new - 1) / 8) where
+    abbrev a : ℕ
+    a = g .words * K + o % span (g .words) 0 / 8
+
+    abbrev v : ℕ
+    v = splicedWord (o % 8) new (getD b a 0)
+
+    abbrev b₂ : List ℕ
+    b₂ = set b a v
+
+    walked : walk (g .words) b (root g b f % g .words) (root g b f / g .words) (size g b f) o ≡ Block K
+    unfolding walkTo rootWalk
+    walked = rw (lt-ltb o (span (g .words) (root g b f % g .words)) (omega arith)) at there
+
+    place-lt : o % span (g .words) 0 / 8 < g .words
+    unfolding span
+    place-lt = let l : o % (8 * g .words) < 8 * g .words = mod-lt o (omega (arith, pos)) in omega arith
+
+    block-of : a / g .words ≡ K
+    block-of = address-block (g .words) K (o % span (g .words) 0 / 8) place-lt
+
+    in-tree : 0 < occ (a / g .words) (fileBlocks g b f)
+    unfolding fileBlocks rootBlocks
+    in-tree = rw block-of (walk-inside (g .words) b pos (root g b f % g .words) (root g b f / g .words) (size g b f) o K (omega arith) walked)
+
+    same : Same g b b
+    same = same-refl g fit b
+
+    spot : Spot g fit b (facts-same g fit b b t same) f f-lt a
+    spot = inr in-tree
+
+    root-stays : root g b f ≡ root g b₂ f
+    root-stays = spot-root g fit b ok f f-lt a v spot f f-lt (λ x. tree-not-inode-of g fit b ok f f-lt a in-tree f 0 f-lt (omega arith) (add-zero (rootAddress g b f) ∙ x))
+
+    size-stays : size g b f ≡ size g b₂ f
+    unfolding sizeAddress
+    size-stays = spot-size g fit b ok f f-lt a v spot f f-lt (tree-not-inode-of g fit b ok f f-lt a in-tree f 1 f-lt (omega arith))
+
+    on-board : a < length b
+    on-board = address-on-board g fit b (ok .sizes) a (omega (arith, spot-ranged g fit b ok f f-lt a spot .1))
+
+    replaced : Replaced (g .words) b b₂ a (root g b f % g .words) (root g b f / g .words) (size g b f)
+    unfolding fileBlocks rootBlocks cell
+    replaced = record { once = tree-once; same = λ q l i u d. sym (getD-set-other b a (g .words * q + i) v 0 d) }
+
+    written : Written g fit b b₂ (sym (length-set b a v)) f (root g b f % g .words) (root g b f / g .words) o (size g b f) new (λ q. 0)
+    written = record {
+      old = λ live. (refl, refl);
+      height = ap (λ (x : ℕ). x % g .words) (sym root-stays);
+      now = sym size-stays;
+      low = ok .low f f-lt (omega arith);
+      most = ok .most f f-lt;
+      past = past-span o new (span (g .words) (root g b f % g .words)) (size g b f) under;
+      change = rw (← root-stays)
+          (word-changed (g .words) pos b b₂ new small (blockCount g b - 1) (root g b f % g .words) (root g b f / g .words) (size g b f) o K walked (omega arith) word replaced (getD-set-same b a v 0 on-board));
+    }
+
+    pub single-good : GoodStep g b f (step [] a v) (spliced g b f o new (size g b f))
+    unfolding step store committed performed All occ
+    single-good = record {
+      hides = tt;
+      once = λ x. omega arith;
+      within = spot-ranged g fit b ok f f-lt a spot;
+      outcome = spot-commit g fit b b t same f f-lt a v spot (spliced g b f o new (size g b f)) (λ q. 0)
+          (written-commit g fit b b₂ (sym (length-set b a v)) f (root g b f % g .words) (root g b f / g .words) o (size g b f) new (λ q. 0) written (ok .tree f f-lt))
+          (λ q. omega (arith, ok .once q));
+    }

@@ -1,0 +1,81 @@
+-- Where the live blocks and the roots of an accepted board lie.
+use mathlib.Core.Path.{_≡_, sym, ap, ap₂, _∙_}
+use mathlib.Core.Logic.{inl, inr}
+use mathlib.Core.List.{List}
+use Prim.Native.Nat.{ℕ, zero, suc, _+_, _-_, _*_, _/_, _%_, _<_}
+use native.Mathlib.Omega.{arith}
+use native.Mathlib.Nat.{div-add-mod'}
+use lib.Dec.{T, ltb→lt}
+use Rattle.model.specs.Lists.{sum}
+use Rattle.model.specs.Layout.{Layout, Fits, files}
+use Rattle.model.specs.Tree.{span, cell, link, blocks, sound}
+use Rattle.model.specs.Board.{rootBlocks, blockCount, inodeBlock, leaf, rootAddress, root, size, fileBlocks, liveBlocks}
+use Rattle.model.proofs.Cases.{split, decide}
+use Rattle.model.proofs.Sums.{sum-two, sum-some}
+use Rattle.model.proofs.Counting.{one, occ, one-same, one-other, occ-joined}
+use Rattle.model.proofs.Trees.{childBlocks}
+use Rattle.model.proofs.Agree.{sound-root, sound-child}
+use Rattle.model.proofs.Shown.{words-pos, occ-live, leaf-of}
+use Rattle.model.proofs.Accepting.{Ranged, Facts}
+use Rattle.model.proofs.Visible.{root-block}
+
+one-some : (x y : ℕ) → 0 < one x y → x ≡ y
+one-some x y o = elim (decide x y) [
+  | inl e ↦ e
+  | inr d ↦ absurd (omega (arith, one-other x y d))
+]
+
+-- the blocks of a tree whose pointers are as they must be
+module _ (W : ℕ) (pos : 0 < W) (b : List ℕ) (top : ℕ) where
+  pub tree-range : (h k n x : ℕ) → T (sound W b top h k n) → 0 < occ x (blocks W b h k n) → (0 < x) × (x < top)
+  unfolding blocks occ sound link
+  tree-range zero zero n x t o = absurd (omega (arith, o))
+  tree-range zero (suc k) zero x t o = absurd (omega (arith, o))
+  tree-range zero (suc k) (suc n) x t o = rw (one-some x (suc k) (omega (arith, o))) (omega arith, ltb→lt (suc k) top t)
+  tree-range (suc h) zero n x t o = absurd (omega (arith, o))
+  tree-range (suc h) (suc k) zero x t o = absurd (omega (arith, o))
+  tree-range (suc h) (suc k) (suc n) x t o = elim (decide x (suc k)) [
+    | inl e ↦ rw e (omega arith, sound-root W pos top b h (suc k) (suc n) (omega arith) (omega arith) t)
+    | inr d ↦
+        let c = sum-some W (λ j. occ x (childBlocks W b h (suc k) (suc n) j)) (omega (arith, o, one-other x (suc k) d, occ-joined x W (childBlocks W b h (suc k) (suc n)))) in
+        tree-range h (cell W b (suc k) (c .0) / W) (suc n - c .0 * span W h) x (sound-child W pos top b h (suc k) (suc n) t (c .0) (c .1) .1) (c .2)
+  ]
+
+module _ (g : Layout) (fit : Fits g) (b : List ℕ) (ok : Facts g b) where
+  pub file-range : (f x : ℕ) → f < files g → 0 < occ x (fileBlocks g b f) → Ranged g b x
+  unfolding fileBlocks rootBlocks
+  file-range f x h o = tree-range (g .words) (words-pos g fit) b (blockCount g b - 1) (root g b f % g .words) (root g b f / g .words) (size g b f) x (ok .tree f h) o
+
+  pub live-range : (x : ℕ) → 0 < occ x (liveBlocks g b) → Ranged g b x
+  live-range x o = elim (decide x (inodeBlock g b)) [
+    | inl e ↦ rw e (ok .inode)
+    | inr d ↦ elim (split (sum (g .leaves) (λ l. one x (leaf g b l))) 0) [
+      | inl z ↦ let c = sum-some (files g) (λ f. occ x (fileBlocks g b f)) (omega (arith, o, occ-live g b x, one-other x (inodeBlock g b) d)) in
+          file-range (c .0) x (c .1) (c .2)
+      | inr z ↦ let c = sum-some (g .leaves) (λ l. one x (leaf g b l)) z in
+          rw (one-some x (leaf g b (c .0)) (c .2)) (ok .leaf-in (c .0) (c .1))
+    ]
+  ]
+
+  -- no two inode pointers have one leaf
+  pub leaf-once : (i j : ℕ) → i < g .leaves → j < g .leaves → leaf g b i ≡ leaf g b j → i ≡ j
+  leaf-once i j h l e = elim (decide i j) [
+    | inl same ↦ same
+    | inr d ↦ absurd (omega (
+      arith,
+      ok .once (leaf g b i),
+      occ-live g b (leaf g b i),
+      sum-two (g .leaves) (λ x. one (leaf g b i) (leaf g b x)) i j h l d,
+      one-same (leaf g b i),
+      ap (one (leaf g b i)) (sym e),
+    ))
+  ]
+
+  -- no two files have their roots at one address
+  pub root-once : (i f : ℕ) → i < files g → f < files g → rootAddress g b i ≡ rootAddress g b f → i ≡ f
+  unfolding rootAddress
+  root-once i f l h e =
+      let leaf-same : leaf g b (i / g .inodes) ≡ leaf g b (f / g .inodes) = sym (root-block g fit b i) ∙ ap (λ (x : ℕ). x / g .words) e ∙ root-block g fit b f in
+      let quotient : i / g .inodes ≡ f / g .inodes = leaf-once (i / g .inodes) (f / g .inodes) (leaf-of g fit i l) (leaf-of g fit f h) leaf-same in
+      let rest : i % g .inodes ≡ f % g .inodes = omega (arith, e, ap (λ (x : ℕ). g .words * x) leaf-same) in
+      sym (div-add-mod' i (g .inodes)) ∙ ap₂ (λ (x y : ℕ). x * g .inodes + y) quotient rest ∙ div-add-mod' f (g .inodes)
