@@ -7,7 +7,7 @@ use Prim.Native.Nat.{ℕ, zero, suc, _+_, _*_, _/_, _≤_, _<_}
 use native.Mathlib.Omega.{arith}
 use native.Mathlib.Nat.{zero-add}
 use lib.ListN.{length, getD, set, length-set}
-use lib.Seq.{getD-set-same}
+use lib.Seq.{getD-set-same, getD-set-other}
 use lib.Dec.{T}
 use Rattle.model.specs.Lists.{tabulate, joined, sum, all}
 use Rattle.model.specs.Tree.{cell}
@@ -112,8 +112,12 @@ addresses-counted (s ∷ ss) = (
   all-map (λ t. 0 < occ (t .at) (addresses ss)) (λ t. 0 < one (t .at) (s .at) + occ (t .at) (addresses ss)) (λ t l. omega arith) ss (addresses-counted ss),
 )
 
--- if no address is there twice, each store stands after all
-pub performed-holds : (b : List ℕ) (ss : List Store) → ((x : ℕ) → occ x (addresses ss) ≤ 1) → All (λ s. s .at < length b) ss → All (λ s. getD (performed b ss) (s .at) 0 ≡ s .value) ss
+-- each store stands on b
+abbrev pub Stands : List ℕ → List Store → Type 0
+Stands b ss = All (λ s. getD b (s .at) 0 ≡ s .value) ss
+
+-- if no address is there twice, each does after all
+pub performed-holds : (b : List ℕ) (ss : List Store) → ((x : ℕ) → occ x (addresses ss) ≤ 1) → All (λ s. s .at < length b) ss → Stands (performed b ss) ss
 unfolding performed occ All
 performed-holds b [] once on = tt
 performed-holds b (s ∷ ss) once on =
@@ -121,6 +125,12 @@ performed-holds b (s ∷ ss) once on =
       performed-away c ss (s .at) (away-addresses (s .at) ss (omega (arith, once (s .at), one-same (s .at)))) ∙ getD-set-same b (s .at) (s .value) 0 (on .0),
       performed-holds c ss (λ x. omega (arith, once x)) (all-map (λ t. t .at < length b) (λ t. t .at < length c) (λ t l. rw (length-set b (s .at) (s .value)) l) ss (on .1)),
     )
+
+-- also after a store elsewhere
+pub stands-set : (b : List ℕ) (ss : List Store) (a v : ℕ) → All (λ s. s .at ≢ a) ss → Stands b ss → Stands (set b a v) ss
+unfolding All
+stands-set b [] a v d h = tt
+stands-set b (s ∷ ss) a v d h = (getD-set-other b a (s .at) v 0 (d .0) ∙ h .0, stands-set b ss a v (d .1) (h .1))
 
 -- ---- the stores of pages
 
@@ -160,13 +170,13 @@ module _ (W : ℕ) (fresh : ℕ → ℕ) where
   )
 
   -- stores that stand are pages that are held
-  pub held-of-all : (b : List ℕ) (ps : List Page) (c : ℕ) → All (λ s. getD b (s .at) 0 ≡ s .value) (stored W fresh ps c) → held W fresh b ps c
+  pub held-of-all : (b : List ℕ) (ps : List Page) (c : ℕ) → Stands b (stored W fresh ps c) → held W fresh b ps c
   unfolding stored held cell store
   held-of-all b [] c a = tt
   held-of-all b (p ∷ ps) c a =
-      let Stands : Store → Type 0 = λ s. getD b (s .at) 0 ≡ s .value in
+      let Stood : Store → Type 0 = λ s. getD b (s .at) 0 ≡ s .value in
       let page : List Store = tabulate W (pageStore W (fresh c) p) in
       let rest : List Store = stored W fresh ps (suc c) in (
-        tabulate-at Stands W (pageStore W (fresh c) p) (all-left Stands page rest a),
-        held-of-all b ps (suc c) (all-right Stands page rest a),
+        tabulate-at Stood W (pageStore W (fresh c) p) (all-left Stood page rest a),
+        held-of-all b ps (suc c) (all-right Stood page rest a),
       )

@@ -38,6 +38,17 @@ module _ (fresh : ℕ → ℕ) where
   unfolding used sum
   used-one q c = zero-add _ ∙ ap (λ (x : ℕ). one q (fresh x)) (add-zero c)
 
+-- byte i of a data block whose word there is the page's
+pub page-byte : (W : ℕ) (pos : 0 < W) (b b′ : List ℕ) (k k′ n m o : ℕ) (new : List ℕ) → 0 < k′ → Small new → (i : ℕ) → i < m → cell W b′ k′ (i / 8) ≡ dataPage W b k n o new (i / 8)
+    → byteAt W b′ zero k′ m i ≡ splice o new (byteAt W b zero k n i) i
+unfolding byteAt dataPage
+page-byte W pos b b′ k k′ n m o new there small i v word =
+    seen-live (m - i) _ (omega arith)
+    ∙ ap (λ (w : ℕ). byteOf w (i % 8)) (link-cell W pos b′ k′ (i / 8) there ∙ word)
+    ∙ byteOf-wordOf 8 (λ t. splice o new (seen (n - (8 * (i / 8) + t)) (byteOf (link W b k (i / 8)) t)) (8 * (i / 8) + t))
+    (λ t. splice-small o new _ (8 * (i / 8) + t) small (seen-lt (n - (8 * (i / 8) + t)) _ 256 (byteOf-lt (link W b k (i / 8)) t))) (i % 8) (omega arith)
+    ∙ ap (λ (y : ℕ). splice o new (seen (n - y) (byteOf (link W b k (i / 8)) (i % 8))) y) (omega arith)
+
 module _ (W : ℕ) (pos : 0 < W) (b : List ℕ) (fresh : ℕ → ℕ) where
   -- the pages of child j
   abbrev pub kid : ℕ → ℕ → ℕ → ℕ → List ℕ → ℕ → ℕ → List Page
@@ -138,14 +149,9 @@ module _ (W : ℕ) (pos : 0 < W) (b : List ℕ) (fresh : ℕ → ℕ) where
     module _ (lim : ℕ) (nonzero : (i : ℕ) → i < lim → 0 < fresh i) where
       pub data-byte : (k n o : ℕ) (new : List ℕ) (c m : ℕ) → 0 < length new → c < lim → Small new → held W fresh b′ (build W fresh b zero k n o new c) c
           → (i : ℕ) → i < span W zero → i < m → byteAt W b′ zero (fresh c) m i ≡ splice o new (byteAt W b zero k n i) i
-      unfolding build held byteAt span dataPage
+      unfolding build held span
       data-byte k n o [] c m p q small g i l v = absurd (omega arith)
-      data-byte k n o (x ∷ new) c m p q small g i l v =
-          seen-live (m - i) _ (omega arith)
-          ∙ ap (λ (w : ℕ). byteOf w (i % 8)) (link-cell W pos b′ (fresh c) (i / 8) (nonzero c q) ∙ g .0 (i / 8) (omega arith))
-          ∙ byteOf-wordOf 8 (λ t. splice o (x ∷ new) (seen (n - (8 * (i / 8) + t)) (byteOf (link W b k (i / 8)) t)) (8 * (i / 8) + t))
-          (λ t. splice-small o (x ∷ new) _ (8 * (i / 8) + t) small (seen-lt (n - (8 * (i / 8) + t)) _ 256 (byteOf-lt (link W b k (i / 8)) t))) (i % 8) (omega arith)
-          ∙ ap (λ (y : ℕ). splice o (x ∷ new) (seen (n - y) (byteOf (link W b k (i / 8)) (i % 8))) y) (omega arith)
+      data-byte k n o (x ∷ new) c m p q small g i l v = page-byte W pos b b′ k (fresh c) n m o (x ∷ new) (nonzero c q) small i v (g .0 (i / 8) (omega arith))
 
       -- the pointers of the fresh root: the old one where nothing is written, a fresh one elsewhere
       pub top-old : (h k n o : ℕ) (new : List ℕ) (c : ℕ) → 0 < length new → c + need W (suc h) o (length new) ≤ lim → held W fresh b′ (build W fresh b (suc h) k n o new c) c

@@ -1,14 +1,15 @@
 -- One word of a file's inode or tree stored on a board that shows what an accepted one shows: the file becomes something else, and nothing else does.
 use mathlib.Core.Path.{_≡_, sym, ap, _∙_}
+use mathlib.Core.Logic.{inl, inr}
 use mathlib.Core.List.{List}
 use Prim.Native.Nat.{ℕ, _+_, _/_, _≤_, _<_}
 use native.Mathlib.Omega.{arith}
 use lib.ListN.{length, length-set, set}
 use lib.Dec.{T}
 use Rattle.model.specs.Layout.{Layout, Fits, files}
-use Rattle.model.specs.Board.{trailer, inodePointer, leaf, liveBlocks, accepted}
+use Rattle.model.specs.Board.{trailer, inodePointer, leaf, sizeAddress, liveBlocks, accepted}
 use Rattle.model.proofs.Counting.{one, occ}
-use Rattle.model.proofs.Shown.{Same, words-pos, leaf-of, same-accepted, trailer-kept, inode-kept, leaf-kept, leaf-sound-kept}
+use Rattle.model.proofs.Shown.{Same, words-pos, leaf-of, same-accepted, same-address, same-blocks, trailer-kept, inode-kept, leaf-kept, leaf-sound-kept}
 use Rattle.model.proofs.Accepting.{accepted-parts, Facts, facts}
 use Rattle.model.proofs.Commits.{FileCommit, OneFile, Outcome, one-file, others-from}
 use Rattle.model.proofs.Apart.{Spot, spot-trailer, spot-pointer, spot-others}
@@ -20,6 +21,12 @@ module _ (g : Layout) (fit : Fits g) (b c : List ℕ) (t : T (accepted g b)) (sa
   -- facts of a board that shows the same
   pub facts-same : Facts g c
   facts-same = facts g fit c accepted-same
+
+  pub spot-same : (f : ℕ) (f-lt : f < files g) (a : ℕ) → Spot g fit b (facts g fit b t) f f-lt a → Spot g fit c facts-same f f-lt a
+  unfolding sizeAddress
+  spot-same f f-lt a (inl (inl e)) = inl (inl (e ∙ same-address g fit b c same f (leaf-of g fit f f-lt)))
+  spot-same f f-lt a (inl (inr e)) = inl (inr (e ∙ ap (λ (x : ℕ). x + 1) (same-address g fit b c same f (leaf-of g fit f f-lt))))
+  spot-same f f-lt a (inr z) = inr (rw (← (same-blocks g fit b c same f f-lt)) z)
 
   module _ (f : ℕ) (f-lt : f < files g) (a v : ℕ) (s : Spot g fit c facts-same f f-lt a) where
     abbrev b₂ : List ℕ

@@ -9,7 +9,7 @@ use Prim.Native.Nat.{ℕ, zero, suc, _+_, _-_, _*_, _/_, _%_, _^_, _≤_, _<_}
 use native.Mathlib.Omega.{arith}
 use native.Mathlib.Nat.{mod-lt, mod-eq-of-lt, div-add-mod', mod-mod-of-dvd, dvd-mul-right}
 use lib.ListN.{length, getD}
-use lib.Dec.{T}
+use lib.Dec.{T, eqb→eq}
 use borrow.Author.Tests.{le-leb, lt-leb}
 use Rattle.model.specs.declared.WalkEnd.{WalkEnd}
 use Rattle.model.specs.declared.WalkEnd.the-variants.{Block, Hole}
@@ -26,7 +26,7 @@ use Rattle.model.proofs.Bytes.{byteOf-lt, byteOf-wordOf}
 use Rattle.model.proofs.Spans.{span-power, child}
 use Rattle.model.proofs.Trees.{childBlocks, walk-null}
 use Rattle.model.proofs.Perform.{address-block}
-use Rattle.model.proofs.Agree.{byteAt, seen-live, frame, beneath, occ-node, aligned-zero, sound-root}
+use Rattle.model.proofs.Agree.{byteAt, seen-live, frame, beneath, occ-node, aligned-zero, sound-child, sound-root}
 use Rattle.model.proofs.Splice.{Small, length-part, splice-small, splice-part, splice-skip, part-whole, part-none}
 use Rattle.model.proofs.Changed.{Changed, weaken, kept, node}
 use Rattle.model.proofs.Built.{held, used, length-build, build-changed}
@@ -172,6 +172,31 @@ module _ (W : ℕ) (pos : 0 < W) (fresh : ℕ → ℕ) (b : List ℕ) (new : Lis
             (inr (elim (descend-inside h (cell W b (suc k) j / W) (n - j * s) (o % s) (W * suc k + j) (omega (arith, place .there)) (place .inside)) [
               | inl e ↦ rw (e, address-block W (suc k) j (place .which)) (occ-root W pos b h k n live)
               | inr f ↦ omega (arith, occ-child W pos b h k n live (descend W fresh b h (cell W b (suc k) j / W) (n - j * s) (o % s) new c (W * suc k + j) .at / W) j (place .which))
+            ]))
+        | inr more ↦ inl (ap (λ (sh : Shadow). sh .at) (descend-stop W fresh b new c h k n o a more))
+      ]
+
+  aligned-low : (n w : ℕ) → 0 < n → T (aligned W n w) → w % W ≡ 0
+  unfolding aligned
+  aligned-low zero w p t = absurd (omega arith)
+  aligned-low (suc n) w p t = eqb→eq (w % W) 0 t
+
+  -- in a sound tree, where that is not a, the word there has low bits 0
+  pub descend-low : (top h k n o a : ℕ) → o < n → o < span W h → T (sound W b top h k n)
+      → let at = descend W fresh b h k n o new c a .at in (at ≡ a) ⊎ (getD b at 0 % W ≡ 0)
+  unfolding descend link cell
+  descend-low top zero k n o a v u t = inl refl
+  descend-low top (suc h) zero n o a v u t = inl refl
+  descend-low top (suc h) (suc k) n o a v u t =
+      let s = span W h in
+      let j = o / s in
+      let place = child W pos h o u in
+      let below = sound-child W pos top b h (suc k) n t j (place .which) in
+      elim (split (o % s + length new) s) [
+        | inl fits ↦ subst (λ (sh : Shadow). (sh .at ≡ a) ⊎ (getD b (sh .at) 0 % W ≡ 0)) (sym (descend-on W fresh b new c h k n o a fits))
+            (inr (elim (descend-low top h (cell W b (suc k) j / W) (n - j * s) (o % s) (W * suc k + j) (omega (arith, place .there)) (place .inside) (below .1)) [
+              | inl e ↦ rw e (aligned-low (n - j * s) (cell W b (suc k) j) (omega (arith, place .there)) (below .0))
+              | inr z ↦ z
             ]))
         | inr more ↦ inl (ap (λ (sh : Shadow). sh .at) (descend-stop W fresh b new c h k n o a more))
       ]

@@ -1,8 +1,10 @@
 -- A step of a plan that is as it must be: its hidden stores are hidden and go to different words, its commit leaves the board accepted, the file
 -- reading as wanted and the others as before.
+use mathlib.Core.Path.{_≡_}
 use mathlib.Core.List.{List, [], _∷_}
 use Prim.Native.Nat.{ℕ, _+_, _*_, _/_, _%_, _≤_, _<_}
 use native.Mathlib.Omega.{arith}
+use lib.ListN.{length}
 use lib.Dec.{T}
 use Rattle.model.specs.Layout.{Layout, Fits, files}
 use Rattle.model.specs.Board.{contents, accepted}
@@ -11,8 +13,10 @@ use Rattle.model.specs.Hidden.{hidden}
 use Rattle.model.specs.Plan.{Step, step}
 use Rattle.model.proofs.Counting.{occ}
 use Rattle.model.proofs.Perform.{All}
-use Rattle.model.proofs.Addresses.{addresses, all-holds}
-use Rattle.model.proofs.Accepting.{Ranged}
+use Rattle.model.proofs.Addresses.{addresses, Stands, all-map, all-holds, performed-holds}
+use Rattle.model.proofs.Shown.{Same}
+use Rattle.model.proofs.Accepting.{Ranged, facts, address-on-board}
+use Rattle.model.proofs.HiddenStores.{hidden-in-range, hidden-all-same}
 use Rattle.model.proofs.Commits.{Outcome}
 use Rattle.model.proofs.Steps.{committed, SafeStep}
 
@@ -24,3 +28,19 @@ pub record GoodStep (g : Layout) (b : List ℕ) (f : ℕ) (p : Step) (wanted : L
 
 pub good-safe : (g : Layout) (b : List ℕ) (f : ℕ) (p : Step) (wanted : List ℕ) → GoodStep g b f p wanted → SafeStep g b f p
 good-safe g b f p wanted s = record { hides = all-holds (hidden g b) (p .hidden) (s .hides); accepts = s .outcome .board; others = λ i u d. s .outcome .kept i u d }
+
+-- Steps each good on the board that those before it leave, the last making f read `wanted`, those before leaving f as it reads
+unfoldable pub GoodSteps : (g : Layout) (b : List ℕ) (f : ℕ) (ps : List Step) (wanted : List ℕ) → Type 0
+GoodSteps g b f [] wanted = contents g b f ≡ wanted
+GoodSteps g b f (p ∷ []) wanted = GoodStep g b f p wanted
+GoodSteps g b f (p ∷ q ∷ ps) wanted = GoodStep g b f p (contents g b f) × GoodSteps g (committed b p) f (q ∷ ps) wanted
+
+-- ---- An epoch of hidden stores, performed
+
+module _ (g : Layout) (fit : Fits g) (b : List ℕ) (t : T (accepted g b)) (ss : List Store) (hides : All (λ s. T (hidden g b s)) ss) where
+  pub epoch-same : Same g b (performed b ss)
+  epoch-same = hidden-all-same g fit b t ss (all-holds (hidden g b) ss hides)
+
+  pub epoch-stands : ((x : ℕ) → occ x (addresses ss) ≤ 1) → Stands (performed b ss) ss
+  epoch-stands once = performed-holds b ss once (all-map (λ s. T (hidden g b s)) (λ s. s .at < length b)
+      (λ s h. address-on-board g fit b (facts g fit b t .sizes) (s .at) (omega (arith, hidden-in-range g fit b t s h .1))) ss hides)

@@ -14,25 +14,28 @@ use Rattle.model.specs.declared.WalkEnd.the-variants.{Block, Hole}
 use Rattle.model.specs.Layout.{Layout, Fits, files}
 use Rattle.model.specs.Tree.{span, cell, walk, blocks}
 use Rattle.model.specs.Board.{rootWalk, rootBlocks, greatest, blockCount, leaf, rootAddress, sizeAddress, root, size, walkTo, contents, fileBlocks, liveBlocks, accepted}
-use Rattle.model.specs.Store.{store, performed}
+use Rattle.model.specs.Store.{Store, store, performed}
+use Rattle.model.specs.Hidden.{hidden}
 use Rattle.model.specs.Fresh.{splice, stored}
 use Rattle.model.specs.Plan.{Step, step}
 use Rattle.model.specs.Change.{splicedWord, Shadow, descend}
 use Rattle.model.proofs.Cases.{split, decide}
 use Rattle.model.proofs.Counting.{occ}
 use Rattle.model.proofs.Perform.{All, address-block}
-use Rattle.model.proofs.Addresses.{addresses}
+use Rattle.model.proofs.Addresses.{addresses, stands-set, held-of-all}
 use Rattle.model.proofs.Spans.{span-pos}
 use Rattle.model.proofs.Splice.{Small, splice-right}
 use Rattle.model.proofs.Changed.{Changed}
-use Rattle.model.proofs.Shown.{Same, words-pos, leaf-of, file-live}
+use Rattle.model.proofs.Built.{held, used}
+use Rattle.model.proofs.Shown.{Same, words-pos, leaf-of, file-live, same-address}
 use Rattle.model.proofs.Accepting.{Facts, facts, address-on-board}
 use Rattle.model.proofs.Commits.{FileCommit, Written, spliced, written-commit, Outcome}
-use Rattle.model.proofs.Apart.{Spot, spot-ranged, spot-root, spot-size, tree-not-inode-of}
-use Rattle.model.proofs.Committing.{facts-same, spot-commit}
-use Rattle.model.proofs.Descent.{Replaced, walk-inside, word-changed}
+use Rattle.model.proofs.Apart.{Spot, spot-ranged, spot-live, spot-root, spot-size, stored-root, tree-not-inode-of}
+use Rattle.model.proofs.Committing.{facts-same, spot-same, spot-commit}
+use Rattle.model.proofs.Supplied.{Supply, stored-hidden, stored-apart, stored-not-live, stored-keeps}
+use Rattle.model.proofs.Descent.{Replaced, walk-inside, word-changed, Committed, descend-inside, descend-low, descend-changed}
 use Rattle.model.proofs.Steps.{committed}
-use Rattle.model.proofs.GoodSteps.{GoodStep}
+use Rattle.model.proofs.GoodSteps.{GoodStep, epoch-same, epoch-stands}
 use Rattle.model.proofs.Visible.{same-refl}
 
 -- a write that ends within the span is zero past it
@@ -119,3 +122,79 @@ module _ (g : Layout) (fit : Fits g) (b : List ℕ) (t : T (accepted g b)) (f : 
           (written-commit g fit b b₂ (sym (length-set b a v)) f (root g b f % g .words) (root g b f / g .words) o (size g b f) new (λ q. 0) written (ok .tree f f-lt))
           (λ q. omega (arith, ok .once q));
     }
+
+  -- ---- Shadow inside the file
+
+  module _ (fresh : ℕ → ℕ) (c lim : ℕ) (supply : Supply g b fresh c lim) where
+    abbrev sh : Shadow
+    sh = descend (g .words) fresh b (root g b f % g .words) (root g b f / g .words) (size g b f) o new c (rootAddress g b f)
+
+    abbrev low : ℕ
+    low = getD b (sh .at) 0 % g .words
+
+    abbrev top : ℕ
+    top = fresh (c + length (sh .pages) - 1)
+
+    module _ (room : c + length (sh .pages) ≤ lim) where
+      abbrev ss : List Store
+      ss = stored (g .words) fresh (sh .pages) c
+
+      hides : All (λ s. T (hidden g b s)) ss
+      hides = stored-hidden g b fresh c lim supply fit (sh .pages) room
+
+      once : (x : ℕ) → occ x (addresses ss) ≤ 1
+      once = stored-apart g b fresh c lim supply (sh .pages) room
+
+      c₁ : List ℕ
+      c₁ = performed b ss
+
+      shown-same : Same g b c₁
+      unfolding c₁
+      shown-same = epoch-same g fit b t ss hides
+
+      value : ℕ
+      value = g .words * top + low
+
+      -- the board with the commit
+      done : List ℕ
+      done = set c₁ (sh .at) value
+
+      place : (sh .at ≡ rootAddress g b f) ⊎ (0 < occ (sh .at / g .words) (fileBlocks g b f))
+      unfolding fileBlocks rootBlocks
+      place = descend-inside (g .words) pos fresh b new c (root g b f % g .words) (root g b f / g .words) (size g b f) o (rootAddress g b f) (omega arith) (omega arith)
+
+      lent-spot : Spot g fit b ok f f-lt (sh .at)
+      lent-spot = elim place [ inl e ↦ inl (inl e) | inr z ↦ inr z ]
+
+      commit-spot : Spot g fit c₁ (facts-same g fit b c₁ t shown-same) f f-lt (sh .at)
+      commit-spot = spot-same g fit b c₁ t shown-same f f-lt (sh .at) lent-spot
+
+      committed-block : value / g .words ≡ top
+      unfolding value
+      committed-block = address-block (g .words) top low (mod-lt (getD b (sh .at) 0) pos)
+
+      committed-low : value % g .words ≡ low
+      unfolding value
+      committed-low = mul-add-mod-self-left (g .words) top low ∙ mod-eq-of-lt (mod-lt (getD b (sh .at) 0) pos)
+
+      commits : getD done (sh .at) 0 ≡ value
+      unfolding done
+      commits = getD-set-same c₁ (sh .at) value 0 (rw (← (shown-same .lengths)) (address-on-board g fit b (ok .sizes) (sh .at) (omega (arith, spot-ranged g fit b ok f f-lt (sh .at) lent-spot .1))))
+
+      words-stay : (q : ℕ) → 0 < occ q (fileBlocks g b f) → (j : ℕ) → j < g .words → g .words * q + j ≢ sh .at → cell (g .words) b q j ≡ cell (g .words) done q j
+      unfolding done c₁ cell
+      words-stay q live j l d = stored-keeps g b fresh c lim supply (sh .pages) room q (omega (arith, file-live g b f q f-lt)) j l ∙ sym (getD-set-other c₁ (sh .at) (g .words * q + j) value 0 d)
+
+      pages-held : held (g .words) fresh done (sh .pages) c
+      unfolding done c₁
+      pages-held = held-of-all (g .words) fresh done (sh .pages) c (stands-set c₁ ss (sh .at) value (stored-not-live g b fresh c lim supply (sh .pages) room (sh .at) (spot-live g fit b ok f f-lt (sh .at) lent-spot))
+          (epoch-stands g fit b t ss hides once))
+
+      root-hit : sh .at ≡ rootAddress g b f → root g done f ≡ value
+      unfolding done
+      root-hit e = stored-root g fit c₁ (facts-same g fit b c₁ t shown-same) f f-lt (sh .at) value commit-spot (e ∙ same-address g fit b c₁ shown-same f (leaf-of g fit f f-lt))
+
+      root-else : sh .at ≢ rootAddress g b f → root g b f ≡ root g done f
+      unfolding done
+      root-else d = shown-same .roots f f-lt (omega arith)
+          ∙ spot-root g fit c₁ (facts-same g fit b c₁ t shown-same) f f-lt (sh .at) value commit-spot f f-lt (λ e. d (sym e ∙ sym (same-address g fit b c₁ shown-same f (leaf-of g fit f f-lt))))

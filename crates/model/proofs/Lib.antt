@@ -13,6 +13,7 @@ pub mod Changed
 pub mod Built
 pub mod Addresses
 pub mod InPlaceStores
+pub mod Tailed
 pub mod Altering
 pub mod Shrunk
 pub mod Grown

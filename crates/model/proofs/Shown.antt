@@ -177,7 +177,7 @@ module _ (g : Layout) (fit : Fits g) (b b′ : List ℕ) (s : Same g b b′) whe
   unfolding rootAddress
   same-address f h = ap (λ (x : ℕ). g .words * x + 2 * (f % g .inodes)) (same-leaf (f / g .inodes) h)
 
-  same-blocks : (f : ℕ) → f < files g → fileBlocks g b f ≡ fileBlocks g b′ f
+  pub same-blocks : (f : ℕ) → f < files g → fileBlocks g b f ≡ fileBlocks g b′ f
   unfolding fileBlocks
   same-blocks f h = rw (← (s .sizes f h)) (root-blocks (g .words) pos b b′ (root g b f) (root g b′ f) (size g b f) (s .roots f h) (s .trees f h))
 

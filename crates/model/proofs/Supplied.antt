@@ -10,15 +10,16 @@ use lib.Dec.{T}
 use Rattle.model.specs.Lists.{sum, some, member}
 use Rattle.model.specs.Layout.{Layout, Fits, files}
 use Rattle.model.specs.Board.{blockCount, liveBlocks, free}
-use Rattle.model.specs.Store.{Store}
+use Rattle.model.specs.Tree.{cell}
+use Rattle.model.specs.Store.{Store, performed}
 use Rattle.model.specs.Hidden.{hiddenInFile, hidden}
 use Rattle.model.specs.Fresh.{Page, stored}
 use Rattle.model.specs.Calls.{lowest}
 use Rattle.model.proofs.Cases.{split}
 use Rattle.model.proofs.Counting.{occ}
-use Rattle.model.proofs.Perform.{All, address-block, stored-blocks, block-on}
+use Rattle.model.proofs.Perform.{All, performed-away, address-block, stored-blocks}
 use Rattle.model.proofs.Built.{used}
-use Rattle.model.proofs.Addresses.{all-map, used-none, used-once}
+use Rattle.model.proofs.Addresses.{all-map, addresses, used-none, used-once, stored-once}
 use Rattle.model.proofs.Formatted.{Counted}
 use Rattle.model.proofs.Shown.{Same, words-pos, same-count, same-live}
 use Rattle.model.proofs.Census.{FreeBlock, free-at, free-rises, free-member}
@@ -67,3 +68,20 @@ module _ (g : Layout) (b : List ℕ) (fresh : ℕ → ℕ) (c lim : ℕ) (ok : S
   stored-hidden fit ps room = all-map (λ s. FreeBlock g b (s .at / g .words)) (λ s. T (hidden g b s)) (λ s k. rw (free-member g b (s .at / g .words) k) tt) (stored (g .words) fresh ps c)
       (stored-blocks (g .words) fresh (λ x. FreeBlock g b (x / g .words)) ps c
       (λ i j u v l. rw (address-block (g .words) (fresh i) j l) (ok .nonzero i (omega arith), ok .below i (omega arith), ok .spare i u (omega arith))))
+
+  -- and go to different words
+  pub stored-apart : (ps : List Page) → c + length ps ≤ lim → (x : ℕ) → occ x (addresses (stored (g .words) fresh ps c)) ≤ 1
+  stored-apart ps room x = omega (arith, stored-once (g .words) fresh ps c x, used-once fresh (x / g .words) c (length ps) (λ i j u v w. ok .apart i j v (omega arith)))
+
+  -- none of them to a live block
+  pub stored-not-live : (ps : List Page) → c + length ps ≤ lim → (x : ℕ) → 0 < occ (x / g .words) (liveBlocks g b) → All (λ s. s .at ≢ x) (stored (g .words) fresh ps c)
+  stored-not-live ps room x live = stored-blocks (g .words) fresh (λ y. y ≢ x) ps c (λ i j u v l e.
+      omega (arith, ok .spare i u (omega arith), subst (λ (y : ℕ). 0 < occ y (liveBlocks g b)) (ap (λ (y : ℕ). y / g .words) (sym e) ∙ address-block (g .words) (fresh i) j l) live))
+
+  -- so live blocks stay
+  pub stored-keeps : (ps : List Page) → c + length ps ≤ lim → (q : ℕ) → 0 < occ q (liveBlocks g b) → (j : ℕ) → j < g .words
+      → cell (g .words) b q j ≡ cell (g .words) (performed b (stored (g .words) fresh ps c)) q j
+  unfolding cell
+  stored-keeps ps room q live j l = sym (performed-away b (stored (g .words) fresh ps c) (g .words * q + j)
+      (all-map (λ s. s .at ≢ g .words * q + j) (λ s. g .words * q + j ≢ s .at) (λ s d e. d (sym e)) (stored (g .words) fresh ps c)
+      (stored-not-live ps room (g .words * q + j) (rw (address-block (g .words) q j l) live))))
