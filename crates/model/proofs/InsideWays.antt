@@ -30,13 +30,13 @@ use Rattle.model.proofs.Built.{held, used}
 use Rattle.model.proofs.Shown.{Same, words-pos, leaf-of, file-live, same-address}
 use Rattle.model.proofs.Accepting.{Facts, facts, address-on-board}
 use Rattle.model.proofs.Commits.{FileCommit, Written, spliced, written-commit, Outcome}
-use Rattle.model.proofs.Apart.{Spot, spot-ranged, spot-live, spot-root, spot-size, stored-root, tree-not-inode-of}
+use Rattle.model.proofs.Apart.{Spot, spot-ranged, spot-live, spot-root, spot-size, stored-root, leaf-not-file, tree-not-inode-of}
 use Rattle.model.proofs.Committing.{facts-same, spot-same, spot-commit}
-use Rattle.model.proofs.Supplied.{Supply, stored-hidden, stored-apart, stored-not-live, stored-keeps}
+use Rattle.model.proofs.Supplied.{Supply, supply-once, stored-hidden, stored-apart, stored-not-live, stored-keeps}
 use Rattle.model.proofs.Descent.{Replaced, walk-inside, word-changed, Committed, descend-inside, descend-low, descend-changed}
 use Rattle.model.proofs.Steps.{committed}
 use Rattle.model.proofs.GoodSteps.{GoodStep, epoch-same, epoch-stands}
-use Rattle.model.proofs.Visible.{same-refl}
+use Rattle.model.proofs.Visible.{same-refl, root-block}
 
 -- a write that ends within the span is zero past it
 pub past-span : (o : ℕ) (new : List ℕ) (s m : ℕ) → o + length new ≤ s → (i : ℕ) → s ≤ i → i < m → splice o new 0 i ≡ 0
@@ -198,3 +198,70 @@ module _ (g : Layout) (fit : Fits g) (b : List ℕ) (t : T (accepted g b)) (f : 
       unfolding done
       root-else d = shown-same .roots f f-lt (omega arith)
           ∙ spot-root g fit c₁ (facts-same g fit b c₁ t shown-same) f f-lt (sh .at) value commit-spot f f-lt (λ e. d (sym e ∙ sym (same-address g fit b c₁ shown-same f (leaf-of g fit f f-lt))))
+
+      len : length b ≡ length done
+      unfolding done
+      len = shown-same .lengths ∙ sym (length-set c₁ (sh .at) value)
+
+      not-size : sizeAddress g b f ≢ sh .at
+      unfolding sizeAddress
+      not-size x = elim place [
+        | inl e ↦ omega (arith, x, e)
+        | inr z ↦ tree-not-inode-of g fit b ok f f-lt (sh .at) z f 1 f-lt (omega arith) x
+      ]
+
+      size-kept : size g b f ≡ size g done f
+      unfolding done sizeAddress
+      size-kept = shown-same .sizes f f-lt ∙ spot-size g fit c₁ (facts-same g fit b c₁ t shown-same) f f-lt (sh .at) value commit-spot f f-lt
+          (λ x. not-size (ap (λ (y : ℕ). y + 1) (same-address g fit b c₁ shown-same f (leaf-of g fit f f-lt)) ∙ x))
+
+      root-low : root g done f % g .words ≡ root g b f % g .words
+      unfolding root
+      root-low = elim (decide (sh .at) (rootAddress g b f)) [
+        | inl e ↦ ap (λ (x : ℕ). x % g .words) (root-hit e) ∙ committed-low ∙ ap (λ (x : ℕ). getD b x 0 % g .words) e
+        | inr d ↦ ap (λ (x : ℕ). x % g .words) (sym (root-else d))
+      ]
+
+      low-zero : sh .at ≢ rootAddress g b f → low ≡ 0
+      low-zero d = elim (descend-low (g .words) pos fresh b new c (blockCount g b - 1) (root g b f % g .words) (root g b f / g .words) (size g b f) o (rootAddress g b f) (omega arith) (omega arith) (ok .tree f f-lt)) [
+        | inl e ↦ absurd (d e)
+        | inr z ↦ z
+      ]
+
+      ready : Committed (g .words) fresh b done c lim sh (root g b f % g .words) (root g b f / g .words) (size g b f) o (rootAddress g b f)
+      unfolding fileBlocks rootBlocks
+      ready = record {
+        replaced = record { once = tree-once; same = words-stay };
+        within = omega arith;
+        under = omega arith;
+        outside = rw (root-block g fit b f) (leaf-not-file g b (ok .once) (f / g .inodes) f (leaf-of g fit f f-lt) f-lt);
+        holds = pages-held;
+        room = room;
+        value = ap (λ (x : ℕ). x / g .words) commits ∙ committed-block;
+        low = λ d. ap (λ (x : ℕ). x % g .words) commits ∙ committed-low ∙ low-zero d;
+      }
+
+      inside-written : Written g fit b done len f (root g b f % g .words) (root g b f / g .words) o (size g b f) new (λ q. used fresh q c (length (sh .pages)))
+      inside-written = record {
+        old = λ live. (refl, refl);
+        height = root-low;
+        now = sym size-kept;
+        low = ok .low f f-lt (omega arith);
+        most = ok .most f f-lt;
+        past = past-span o new (span (g .words) (root g b f % g .words)) (size g b f) under;
+        change = descend-changed (g .words) pos fresh b done new some small c lim (supply .nonzero) (blockCount g b - 1) (supply .below)
+            (root g b f % g .words) (root g b f / g .words) (size g b f) o (rootAddress g b f) ready (root g done f / g .words)
+            (λ e. ap (λ (x : ℕ). x / g .words) (root-hit e ∙ sym commits ∙ ap (λ (x : ℕ). getD done x 0) e))
+            (λ d. ap (λ (x : ℕ). x / g .words) (sym (root-else d)));
+      }
+
+      pub inside-good : GoodStep g b f (step ss (sh .at) (g .words * top + low)) (spliced g b f o new (size g b f))
+      unfolding step store committed done c₁ value
+      inside-good = record {
+        hides = hides;
+        once = once;
+        within = spot-ranged g fit b ok f f-lt (sh .at) lent-spot;
+        outcome = spot-commit g fit b c₁ t shown-same f f-lt (sh .at) value commit-spot (spliced g b f o new (size g b f)) (λ q. used fresh q c (length (sh .pages)))
+            (written-commit g fit b done len f (root g b f % g .words) (root g b f / g .words) o (size g b f) new (λ q. used fresh q c (length (sh .pages))) inside-written (ok .tree f f-lt))
+            (supply-once g b fresh c lim supply (ok .once) (length (sh .pages)) room);
+      }
