@@ -1,7 +1,7 @@
 -- Cases on numbers and tests, and laws of the loops of specs/Lists.antt.
 use mathlib.Core.Path.{_≡_, refl, sym, ap, ap₂, subst, _∙_}
 use mathlib.Core.Logic.{_≢_, _⊎_, inl, inr}
-use mathlib.Core.Bool.{Bool, true, false, _&&_, and-false, false≢true}
+use mathlib.Core.Bool.{Bool, true, false, _&&_, _||_, and-false, false≢true}
 use mathlib.Core.List.{List, [], _∷_, _++_, append-assoc, append-nil}
 use Prim.Native.Nat.{ℕ, zero, suc, _+_, _≤_, _<_}
 use native.Mathlib.Nat.{add-zero, add-suc}
@@ -10,7 +10,7 @@ use native.Mathlib.Omega.{arith}
 use lib.ListN.{length, length-append}
 use lib.Dec.{T, leb, eqb}
 use borrow.Author.Tests.{leb-true, leb-false, eqb-true, eqb-false}
-use Rattle.model.specs.Lists.{tabulate, joined, every, sum}
+use Rattle.model.specs.Lists.{tabulate, joined, every, some, sum}
 
 pub split : (a b : ℕ) → (a ≤ b) ⊎ (b < a)
 split a b = go (leb a b) refl
@@ -45,6 +45,22 @@ and-right false t h = absurd h
 pub and-both : (s t : Bool) → T s → T t → T (s && t)
 and-both true t h g = g
 and-both false t h g = h
+
+pub or-left : (s t : Bool) → T s → T (s || t)
+or-left true t h = tt
+or-left false t h = absurd h
+
+pub or-right : (s t : Bool) → T t → T (s || t)
+or-right true t h = tt
+or-right false t h = h
+
+pub some-at : (m : ℕ) (p : ℕ → Bool) (j : ℕ) → j < m → T (p j) → T (some m p)
+unfolding some
+some-at zero p j l t = absurd (omega arith)
+some-at (suc m) p j l t = elim (decide m j) [
+  | inl e ↦ or-right (some m p) (p m) (subst (λ (x : ℕ). T (p x)) (sym e) t)
+  | inr n ↦ or-left (some m p) (p m) (some-at m p j (omega arith) t)
+]
 
 -- the same of a test's value
 pub true-left : (s t : Bool) → (s && t) ≡ true → s ≡ true

@@ -28,6 +28,14 @@ module _ (W : ℕ) (pos : 0 < W) (b b′ : List ℕ) (top : ℕ) where
   pub weaken : (h k k′ n m o : ℕ) (new : List ℕ) (e f : ℕ → ℕ) → ((q : ℕ) → e q ≤ f q) → Changed W b b′ top h k k′ n m o new e → Changed W b b′ top h k k′ n m o new f
   weaken h k k′ n m o new e f le c = record { bytes = c .bytes; counts = λ q. omega (arith, le q, c .counts q); fine = c .fine }
 
+  -- the same on a board that agrees on what the tree became
+  pub changed-to : (c : List ℕ) (h k k′ n m o : ℕ) (new : List ℕ) (e : ℕ → ℕ) → Changed W b b′ top h k k′ n m o new e → agree W b′ c h k′ m → Changed W b c top h k k′ n m o new e
+  changed-to c h k k′ n m o new e x a = record {
+    bytes = λ i l v. sym (agree-byte W pos b′ c h k′ m i l a) ∙ x .bytes i l v;
+    counts = λ q. rw (← (agree-blocks W pos b′ c h k′ m a)) (x .counts q);
+    fine = λ s. rw (← (agree-sound W pos b′ c top h k′ m a)) (x .fine s);
+  }
+
   -- a tree that reads the same
   alike : (h k k′ n m o : ℕ) (new : List ℕ) → length new ≡ 0 → ((i : ℕ) → i < span W h → i < m → byteAt W b h k n i ≡ byteAt W b′ h k′ m i)
       → blocks W b h k n ≡ blocks W b′ h k′ m → sound W b top h k n ≡ sound W b′ top h k′ m → Changed W b b′ top h k k′ n m o new (λ q. 0)

@@ -72,6 +72,10 @@ module _ (g : Layout) (b b₂ : List ℕ) where
 abbrev pub spliced : (g : Layout) (b : List ℕ) (f o : ℕ) (new : List ℕ) (m : ℕ) → List ℕ
 spliced g b f o new m = tabulate m (λ i. splice o new (seen (size g b f - i) (rootByte (g .words) b (root g b f) (size g b f) i)) i)
 
+-- (h, k) is the tree of file f, where its size is above 0
+abbrev pub Had : (g : Layout) (b : List ℕ) (f h k : ℕ) → Type 0
+Had g b f h k = 0 < size g b f → (h ≡ root g b f % g .words) × (k ≡ root g b f / g .words)
+
 module _ (g : Layout) (fit : Fits g) (b b₂ : List ℕ) (len : length b ≡ length b₂) (f : ℕ) where
   pos : 0 < g .words
   pos = words-pos g fit
@@ -98,11 +102,7 @@ module _ (g : Layout) (fit : Fits g) (b b₂ : List ℕ) (len : length b ≡ len
   root-sound-of height top r zero p t = tt
   root-sound-of height top r (suc n) p t = and-both (leb (r % g .words) height) (sound (g .words) b₂ top (r % g .words) (r / g .words) (suc n)) (le→leb (r % g .words) height p) t
 
-  -- the tree that the file had, where its size is above 0
-  abbrev pub Had : ℕ → ℕ → Type 0
-  Had h k = 0 < size g b f → (h ≡ root g b f % g .words) × (k ≡ root g b f / g .words)
-
-  had-blocks : (h k : ℕ) → Had h k → blocks (g .words) b h k (size g b f) ≡ fileBlocks g b f
+  pub had-blocks : (h k : ℕ) → Had g b f h k → blocks (g .words) b h k (size g b f) ≡ fileBlocks g b f
   unfolding fileBlocks rootBlocks
   had-blocks h k old = elim (split (size g b f) 0) [
     | inl z ↦ let z′ : size g b f ≡ 0 = omega arith in
@@ -110,7 +110,7 @@ module _ (g : Layout) (fit : Fits g) (b b₂ : List ℕ) (len : length b ≡ len
     | inr z ↦ rw (old z .0, old z .1)
   ]
 
-  had-byte : (h k i : ℕ) → Had h k → i < span (g .words) h → byteAt (g .words) b h k (size g b f) i ≡ seen (size g b f - i) (rootByte (g .words) b (root g b f) (size g b f) i)
+  had-byte : (h k i : ℕ) → Had g b f h k → i < span (g .words) h → byteAt (g .words) b h k (size g b f) i ≡ seen (size g b f - i) (rootByte (g .words) b (root g b f) (size g b f) i)
   had-byte h k i old l = elim (split (size g b f) i) [
     | inl z ↦ byteAt-past (g .words) pos b h k (size g b f) i z ∙ sym (seen-dead (size g b f - i) _ (omega arith))
     | inr z ↦ let o = old (omega arith) in
@@ -119,7 +119,7 @@ module _ (g : Layout) (fit : Fits g) (b b₂ : List ℕ) (len : length b ≡ len
 
   -- a file that is written: m bytes, `new` at o, in a tree of the height that it had
   pub record Written (h k o m : ℕ) (new : List ℕ) (extra : ℕ → ℕ) : Type 0 where
-    pub old : Had h k
+    pub old : Had g b f h k
     pub height : root g b₂ f % g .words ≡ h
     pub now : size g b₂ f ≡ m
     pub low : h ≤ g .height

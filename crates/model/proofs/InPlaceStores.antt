@@ -18,7 +18,7 @@ use Rattle.model.specs.Store.{Store, store}
 use Rattle.model.specs.Hidden.{keepsBytes, hiddenUnder}
 use Rattle.model.specs.Fresh.{splice, part, partLength, dataPage}
 use Rattle.model.specs.InPlace.{tailBefore, tailWords, hooked, inPlace}
-use Rattle.model.proofs.Cases.{split, decide, and-both, every-all}
+use Rattle.model.proofs.Cases.{split, decide, and-both, every-all, or-left, or-right, some-at}
 use Rattle.model.proofs.Sums.{sum-le, sum-add}
 use Rattle.model.proofs.Counting.{one, occ, occ-joined}
 use Rattle.model.proofs.Bytes.{byteOf-lt, byteOf-wordOf}
@@ -27,22 +27,6 @@ use Rattle.model.proofs.Perform.{All, address-block}
 use Rattle.model.proofs.Agree.{seen-live, seen-lt}
 use Rattle.model.proofs.Splice.{Small, small-part, splice-left, splice-small}
 use Rattle.model.proofs.Addresses.{addresses, all-joined, all-map, occ-addresses-joined, addresses-counted, block-once}
-
-or-left : (s t : Bool) → T s → T (s || t)
-or-left true t h = tt
-or-left false t h = absurd h
-
-or-right : (s t : Bool) → T t → T (s || t)
-or-right true t h = tt
-or-right false t h = h
-
-some-at : (m : ℕ) (p : ℕ → Bool) (j : ℕ) → j < m → T (p j) → T (some m p)
-unfolding some
-some-at zero p j l t = absurd (omega arith)
-some-at (suc m) p j l t = elim (decide m j) [
-  | inl e ↦ or-right (some m p) (p m) (subst (λ (x : ℕ). T (p x)) (sym e) t)
-  | inr n ↦ or-left (some m p) (p m) (some-at m p j (omega arith) t)
-]
 
 not-live : (n : ℕ) → n ≤ 0 → T (not (live n))
 unfolding live

@@ -38,6 +38,7 @@ pub mod Apart
 pub mod Committing
 pub mod GoodSteps
 pub mod InsideWays
+pub mod SizeWays
 pub mod Supplied
 pub mod Alike
 pub mod BootPlans

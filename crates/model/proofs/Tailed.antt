@@ -44,7 +44,7 @@ zeros-part s j o new zs i = elim (split (length (part s j o new)) i) [
   | inr lt ↦ getD-part s j o new i lt ∙ zs (j * s - o + i)
 ]
 
-splice-zeros : (o : ℕ) (new : List ℕ) (old i : ℕ) → Zeros new → old ≡ 0 → splice o new old i ≡ 0
+pub splice-zeros : (o : ℕ) (new : List ℕ) (old i : ℕ) → Zeros new → old ≡ 0 → splice o new old i ≡ 0
 splice-zeros o new old i zs e = elim (split o i) [
   | inl p ↦ elim (split (o + length new) i) [
     | inl q ↦ splice-right o new old i q ∙ e
@@ -115,7 +115,7 @@ agree-link W b b′ h k n a j l live = a j l (omega arith) .0
 
 module _ (W : ℕ) (b b′ : List ℕ) (top : ℕ) where
   -- a hole in which zeros are written stays
-  hole-changed : (h n m o : ℕ) (new : List ℕ) → Zeros new → Changed W b b′ top h 0 0 n m o new (λ q. 0)
+  pub hole-changed : (h n m o : ℕ) (new : List ℕ) → Zeros new → Changed W b b′ top h 0 0 n m o new (λ q. 0)
   unfolding occ
   hole-changed h n m o new zs = record {
     bytes = λ i l v. byteAt-null W b′ h m i ∙ sym (splice-zeros o new _ i zs (byteAt-null W b h n i));

@@ -1,0 +1,246 @@
+-- The ways of planning that commit with the file's size: a tail, and a length change.
+use mathlib.Core.Path.{_≡_, refl, sym, ap, _∙_}
+use mathlib.Core.Logic.{_≢_, _⊎_, inl, inr}
+use mathlib.Core.Bool.{Bool, true, _&&_, _||_}
+use mathlib.Core.List.{List, [], _∷_, _++_}
+use Prim.Native.Nat.{ℕ, zero, suc, _+_, _-_, _*_, _/_, _%_, _≤_, _<_}
+use native.Mathlib.Omega.{arith}
+use native.Mathlib.Nat.{add-zero, mod-lt, mod-eq-of-lt, mul-add-mod-self-left, zero-div, zero-mod}
+use lib.ListN.{length, getD, set, length-set, replicate, length-replicate}
+use lib.Dec.{T, eqb}
+use borrow.Author.Tests.{eq-eqb}
+use Rattle.model.specs.Lists.{some, member}
+use Rattle.model.specs.Layout.{Layout, Fits, files}
+use Rattle.model.specs.Tree.{span, least, blocks, sound}
+use Rattle.model.specs.Board.{rootBlocks, greatest, blockCount, leaf, rootAddress, sizeAddress, root, size, contents, fileBlocks, liveBlocks, free, accepted}
+use Rattle.model.specs.Store.{Store, store, performed}
+use Rattle.model.specs.Hidden.{hiddenUnder, hiddenInFile, hidden}
+use Rattle.model.specs.Plan.{Step, step}
+use Rattle.model.specs.Fresh.{Page, splice, need, stored, freshPointer, build}
+use Rattle.model.specs.InPlace.{atBlock, walkLive, tailNeed, tailPages, inPlace}
+use Rattle.model.proofs.Cases.{split, decide, or-right, some-at}
+use Rattle.model.proofs.Counting.{one, occ, one-same, one-other}
+use Rattle.model.proofs.Perform.{All, all-append}
+use Rattle.model.proofs.Addresses.{addresses, Stands, all-map, all-left, all-right, occ-addresses-append, stored-once, held-of-all}
+use Rattle.model.proofs.Agree.{agree, agree-away, agree-refl, agree-none}
+use Rattle.model.proofs.Splice.{Small, Cover, splice-none, splice-right}
+use Rattle.model.proofs.Changed.{Changed, changed-to}
+use Rattle.model.proofs.Built.{held, used, length-build, build-changed}
+use Rattle.model.proofs.InPlaceStores.{in-place-hidden, in-place-once}
+use Rattle.model.proofs.Tailed.{WrittenOn, zeros-replicate, splice-zeros, hole-changed, length-tail, tail-changed, length-changed}
+use Rattle.model.proofs.Trees.{sound-null}
+use Rattle.model.proofs.Shrunk.{shrink-changed}
+use Rattle.model.proofs.Spans.{least-within, least-reaches}
+use Rattle.model.proofs.Shown.{Same, words-pos, leaf-of, leaf-live, file-live, same-address}
+use Rattle.model.proofs.Accepting.{Facts, facts}
+use Rattle.model.proofs.Commits.{FileCommit, Had, had-blocks, Written, spliced, written-commit, Outcome}
+use Rattle.model.proofs.Apart.{Spot, spot-ranged, spot-root, stored-size, leaf-not-file}
+use Rattle.model.proofs.Visible.{same-refl, size-block}
+use Rattle.model.proofs.Committing.{facts-same, spot-same, spot-commit}
+use Rattle.model.proofs.Supplied.{Supply, supply-once, stored-hidden, stored-apart}
+use Rattle.model.proofs.Steps.{committed}
+use Rattle.model.proofs.GoodSteps.{GoodStep, epoch-same, epoch-stands}
+use Rattle.model.proofs.InsideWays.{past-span}
+
+module _ (g : Layout) (fit : Fits g) (b : List ℕ) (t : T (accepted g b)) (f : ℕ) (f-lt : f < files g) where
+  ok : Facts g b
+  ok = facts g fit b t
+
+  pos : 0 < g .words
+  pos = words-pos g fit
+
+  -- ---- The size committed after an epoch of hidden stores
+
+  module _ (ss : List Store) (hides : All (λ s. T (hidden g b s)) ss) (once : (x : ℕ) → occ x (addresses ss) ≤ 1) where
+    -- the board after the epoch
+    abbrev c₁ : List ℕ
+    c₁ = performed b ss
+
+    same : Same g b c₁
+    same = epoch-same g fit b t ss hides
+
+    stands : Stands c₁ ss
+    stands = epoch-stands g fit b t ss hides once
+
+    -- what the file's tree has become there, if its size becomes m
+    pub record Sized (h k o m : ℕ) (new : List ℕ) (extra : ℕ → ℕ) : Type 0 where
+      pub old : Had g b f h k
+      pub height : root g c₁ f % g .words ≡ h
+      pub low : h ≤ g .height
+      pub most : m ≤ greatest g
+      pub past : (i : ℕ) → span (g .words) h ≤ i → i < m → splice o new 0 i ≡ 0
+      pub change : Changed (g .words) b c₁ (blockCount g b - 1) h k (root g c₁ f / g .words) (size g b f) m o new extra
+      pub fine : T (sound (g .words) b (blockCount g b - 1) h k (size g b f))
+      pub spare : (q : ℕ) → occ q (liveBlocks g b) + extra q ≤ 1
+
+    module _ (h k o m : ℕ) (new : List ℕ) (extra : ℕ → ℕ) (w : Sized h k o m new extra) where
+      abbrev a : ℕ
+      a = sizeAddress g b f
+
+      abbrev done : List ℕ
+      done = set c₁ a m
+
+      lent-spot : Spot g fit b ok f f-lt a
+      lent-spot = inl (inr refl)
+
+      spot : Spot g fit c₁ (facts-same g fit b c₁ t same) f f-lt a
+      spot = spot-same g fit b c₁ t same f f-lt a lent-spot
+
+      address-kept : rootAddress g b f ≡ rootAddress g c₁ f
+      address-kept = same-address g fit b c₁ same f (leaf-of g fit f f-lt)
+
+      len : length b ≡ length done
+      len = same .lengths ∙ sym (length-set c₁ a m)
+
+      root-kept : root g c₁ f ≡ root g done f
+      unfolding sizeAddress
+      root-kept = spot-root g fit c₁ (facts-same g fit b c₁ t same) f f-lt a m spot f f-lt (λ x. omega (arith, x, address-kept))
+
+      now : size g done f ≡ m
+      unfolding sizeAddress
+      now = stored-size g fit c₁ (facts-same g fit b c₁ t same) f f-lt a m spot (ap (λ (x : ℕ). x + 1) address-kept)
+
+      -- the leaf is no block of the tree, also not of what it has become
+      leaf-out : occ (a / g .words) (blocks (g .words) c₁ h (root g c₁ f / g .words) m) ≡ 0
+      leaf-out =
+          let q : ℕ = leaf g b (f / g .inodes) in
+          rw (size-block g fit b f) (omega (
+            arith,
+            w .change .counts q,
+            ap (occ q) (had-blocks g fit b done len f h k (w .old)),
+            leaf-not-file g b (ok .once) (f / g .inodes) f (leaf-of g fit f f-lt) f-lt,
+            leaf-live g b (f / g .inodes) (leaf-of g fit f f-lt),
+            w .spare q,
+          ))
+
+      written : Written g fit b done len f h k o m new extra
+      written = record {
+        old = w .old;
+        height = ap (λ (x : ℕ). x % g .words) (sym root-kept) ∙ w .height;
+        now = now;
+        low = w .low;
+        most = w .most;
+        past = w .past;
+        change = rw (← root-kept) (changed-to (g .words) pos b c₁ (blockCount g b - 1) done h k (root g c₁ f / g .words) (size g b f) m o new extra (w .change)
+            (agree-away (g .words) pos c₁ a m h (root g c₁ f / g .words) m leaf-out));
+      }
+
+      pub size-good : GoodStep g b f (step ss a m) (spliced g b f o new m)
+      unfolding step store committed
+      size-good = record {
+        hides = hides;
+        once = once;
+        within = spot-ranged g fit b ok f f-lt a lent-spot;
+        outcome = spot-commit g fit b c₁ t same f f-lt a m spot (spliced g b f o new m) extra (written-commit g fit b done len f h k o m new extra written (w .fine)) (w .spare);
+      }
+
+  -- the file's tree, and that it is sound
+  tree-had : Had g b f (root g b f % g .words) (root g b f / g .words)
+  tree-had live = (refl, refl)
+
+  -- ---- Hidden stores of a file
+
+  -- in its tree
+  under-hidden : (s : Store) → T (hiddenUnder (g .words) b s (root g b f % g .words) (root g b f / g .words) (size g b f)) → T (hidden g b s)
+  unfolding hidden hiddenInFile
+  under-hidden s h = or-right (member (s .at / g .words) (free g b)) (some (files g) (hiddenInFile g b s)) (some-at (files g) (hiddenInFile g b s) f f-lt
+      (or-right (eqb (s .at) (rootAddress g b f) && eqb (size g b f) 0) (hiddenUnder (g .words) b s (root g b f % g .words) (root g b f / g .words) (size g b f)) h))
+
+  -- its root, where the size is 0
+  root-hidden : (v : ℕ) → size g b f ≡ 0 → T (hidden g b (store (rootAddress g b f) v))
+  unfolding hidden hiddenInFile store
+  root-hidden v z = or-right (member (rootAddress g b f / g .words) (free g b)) (some (files g) (hiddenInFile g b (store (rootAddress g b f) v)))
+      (some-at (files g) (hiddenInFile g b (store (rootAddress g b f) v)) f f-lt (rw (eq-eqb (rootAddress g b f) (rootAddress g b f) refl, eq-eqb (size g b f) 0 z) tt))
+
+  -- what is stored in place in its tree is hidden, and goes to no word twice
+  in-tree-hidden : (hook : ℕ → ℕ → ℕ → ℕ) (new : List ℕ) (c : ℕ) → 0 < size g b f → Small new
+      → All (λ s. T (hidden g b s)) (inPlace (g .words) b hook (root g b f % g .words) (root g b f / g .words) (size g b f) new c (rootAddress g b f))
+  in-tree-hidden hook new c live small = all-map _ (λ s. T (hidden g b s)) under-hidden _
+      (in-place-hidden (g .words) b hook (root g b f % g .words) (root g b f / g .words) (size g b f) new c (rootAddress g b f) live small)
+
+  in-tree-once : (hook : ℕ → ℕ → ℕ → ℕ) (new : List ℕ) (c : ℕ) → 0 < size g b f → (x : ℕ)
+      → occ x (addresses (inPlace (g .words) b hook (root g b f % g .words) (root g b f / g .words) (size g b f) new c (rootAddress g b f))) ≤ occ (x / g .words) (liveBlocks g b)
+  unfolding fileBlocks rootBlocks
+  in-tree-once hook new c live x = omega (
+    arith,
+    in-place-once (g .words) b hook (root g b f % g .words) (root g b f / g .words) (size g b f) new c (rootAddress g b f) x live,
+    file-live g b f (x / g .words) f-lt,
+  )
+
+  one-most : (q x : ℕ) → one q x ≤ 1
+  one-most q x = elim (decide q x) [ inl e ↦ rw e (omega (arith, one-same x)) | inr d ↦ omega (arith, one-other q x d) ]
+
+  -- the root word that an epoch stored
+  root-stored : (ss : List Store) → All (λ s. T (hidden g b s)) ss → (v : ℕ) → getD (performed b ss) (rootAddress g b f) 0 ≡ v → root g (performed b ss) f ≡ v
+  unfolding root
+  root-stored ss hides v e = ap (λ (x : ℕ). getD (performed b ss) x 0) (sym (same-address g fit b (performed b ss) (epoch-same g fit b t ss hides) f (leaf-of g fit f f-lt))) ∙ e
+
+  -- ---- Length change
+
+  -- n < s: one store of the size
+  pub shorten-good : (n : ℕ) → n ≤ size g b f → 0 < size g b f → GoodStep g b f (step [] (sizeAddress g b f) n) (spliced g b f 0 [] n)
+  unfolding All occ performed
+  shorten-good n less live = size-good [] tt (λ x. omega arith) (root g b f % g .words) (root g b f / g .words) 0 n [] (λ q. 0) (record {
+    old = tree-had;
+    height = refl;
+    low = ok .low f f-lt live;
+    most = omega (arith, ok .most f f-lt);
+    past = λ i u v. splice-none 0 [] 0 i refl;
+    change = shrink-changed (g .words) pos b b (blockCount g b - 1) (root g b f % g .words) (root g b f / g .words) (size g b f) n 0 less (agree-refl (g .words) pos b _ _ _);
+    fine = ok .tree f f-lt;
+    spare = λ q. omega (arith, ok .once q);
+  })
+
+  -- s = 0: *it stores 0 to the root word*
+  pub lengthen-empty-good : (n : ℕ) → size g b f ≡ 0 → n ≤ greatest g
+      → GoodStep g b f (step (store (rootAddress g b f) 0 ∷ []) (sizeAddress g b f) n) (spliced g b f (size g b f) (replicate (n - size g b f) 0) n)
+  unfolding All occ store
+  lengthen-empty-good n z most =
+      let ss : List Store = store (rootAddress g b f) 0 ∷ [] in
+      let hides : All (λ s. T (hidden g b s)) ss = (root-hidden 0 z, tt) in
+      let once : (x : ℕ) → occ x (addresses ss) ≤ 1 = λ x. omega (arith, one-most x (rootAddress g b f)) in
+      let zero-root : root g (performed b ss) f ≡ 0 = root-stored ss hides 0 (stands ss hides once .0) in
+      size-good ss hides once 0 0 (size g b f) n (replicate (n - size g b f) 0) (λ q. 0) (record {
+        old = λ live. absurd (omega arith);
+        height = ap (λ (x : ℕ). x % g .words) zero-root ∙ zero-mod (g .words);
+        low = omega arith;
+        most = most;
+        past = λ i u v. splice-zeros (size g b f) (replicate (n - size g b f) 0) 0 i (zeros-replicate (n - size g b f)) refl;
+        change = rw (ap (λ (x : ℕ). x / g .words) zero-root ∙ zero-div (g .words)) (hole-changed (g .words) b (performed b ss) (blockCount g b - 1) 0 (size g b f) n (size g b f) (replicate (n - size g b f) 0) (zeros-replicate (n - size g b f)));
+        fine = rw (sound-null (g .words) b (blockCount g b - 1) 0 (size g b f)) tt;
+        spare = λ q. omega (arith, ok .once q);
+      })
+
+  -- s > 0
+  module _ (n : ℕ) (live : 0 < size g b f) (more : size g b f ≤ n) (most : n ≤ greatest g) where
+    abbrev zeros : List ℕ
+    zeros = replicate (n - size g b f) 0
+
+    abbrev clears : List Store
+    clears = inPlace (g .words) b (λ h l c. 0) (root g b f % g .words) (root g b f / g .words) (size g b f) zeros 0 (rootAddress g b f)
+
+    clears-hidden : All (λ s. T (hidden g b s)) clears
+    clears-hidden = in-tree-hidden (λ h l c. 0) zeros 0 live (λ i. omega (arith, zeros-replicate (n - size g b f) i))
+
+    clears-once : (x : ℕ) → occ x (addresses clears) ≤ 1
+    clears-once x = omega (arith, in-tree-once (λ h l c. 0) zeros 0 live x, ok .once (x / g .words))
+
+    root-same : root g b f ≡ root g (performed b clears) f
+    root-same = same clears clears-hidden clears-once .roots f f-lt live
+
+    pub lengthen-good : GoodStep g b f (step clears (sizeAddress g b f) n) (spliced g b f (size g b f) zeros n)
+    lengthen-good = size-good clears clears-hidden clears-once (root g b f % g .words) (root g b f / g .words) (size g b f) n zeros (λ q. 0) (record {
+      old = tree-had;
+      height = ap (λ (x : ℕ). x % g .words) (sym root-same);
+      low = ok .low f f-lt live;
+      most = most;
+      past = λ i u v. splice-zeros (size g b f) zeros 0 i (zeros-replicate (n - size g b f)) refl;
+      change = rw (← root-same) (length-changed (g .words) pos b (performed b clears) (blockCount g b - 1) (root g b f % g .words) (root g b f / g .words) (size g b f) n (n - size g b f) 0 (rootAddress g b f) live (record {
+        grows = more;
+        cover = λ i u v w. (u, rw (length-replicate {A = ℕ} (n - size g b f) 0) (omega arith));
+        visible = same clears clears-hidden clears-once .trees f f-lt;
+        stands = stands clears clears-hidden clears-once;
+      }));
+      fine = ok .tree f f-lt;
+      spare = λ q. omega (arith, ok .once q);
+    })
