@@ -20,8 +20,8 @@ use Rattle.model.specs.Fresh.{Page, splice, need, stored, freshPointer, 
 use Rattle.model.specs.InPlace.{atBlock, walkLive, tailNeed, tailPages, inPlace}
 use Rattle.model.proofs.Cases.{split, decide, or-right, some-at}
 use Rattle.model.proofs.Counting.{one, occ, one-same, one-other}
-use Rattle.model.proofs.Perform.{All, all-append}
-use Rattle.model.proofs.Addresses.{addresses, Stands, all-map, all-left, all-right, occ-addresses-append, stored-once, held-of-all}
+use Rattle.model.proofs.Perform.{All, all-append, address-block}
+use Rattle.model.proofs.Addresses.{addresses, addresses-away, Stands, all-map, all-left, all-right, occ-addresses-append, stored-once, held-of-all}
 use Rattle.model.proofs.Agree.{agree, agree-away, agree-refl, agree-none}
 use Rattle.model.proofs.Splice.{Small, Cover, splice-none, splice-right}
 use Rattle.model.proofs.Changed.{Changed, changed-to}
@@ -35,9 +35,9 @@ use Rattle.model.proofs.Shown.{Same, words-pos, leaf-of, leaf-live, fil
 use Rattle.model.proofs.Accepting.{Facts, facts}
 use Rattle.model.proofs.Commits.{FileCommit, Had, had-blocks, Written, spliced, written-commit, Outcome}
 use Rattle.model.proofs.Apart.{Spot, spot-ranged, spot-root, stored-size, leaf-not-file}
-use Rattle.model.proofs.Visible.{same-refl, size-block}
+use Rattle.model.proofs.Visible.{root-block, size-block}
 use Rattle.model.proofs.Committing.{facts-same, spot-same, spot-commit}
-use Rattle.model.proofs.Supplied.{Supply, supply-once, stored-hidden, stored-apart}
+use Rattle.model.proofs.Supplied.{Supply, supply-once, stored-hidden, stored-apart, stored-not-live}
 use Rattle.model.proofs.Steps.{committed}
 use Rattle.model.proofs.GoodSteps.{GoodStep, epoch-same, epoch-stands}
 use Rattle.model.proofs.InsideWays.{past-span}
@@ -244,3 +244,139 @@ module _ (g : Layout) (fit : Fits g) (b : List ℕ) (t : T (accepted g b)) (f : 
       fine = ok .tree f f-lt;
       spare = λ q. omega (arith, ok .once q);
     })
+
+  -- ---- Tail
+
+  module _ (new : List ℕ) (filled : 0 < length new) (small : Small new) (fresh : ℕ → ℕ) (c lim : ℕ) (supply : Supply g b fresh c lim) where
+    -- s > 0, and no live pointer on the path is null
+    module _ (live : 0 < size g b f) (path : T (atBlock (walkLive (g .words) b (root g b f % g .words) (root g b f / g .words) (size g b f))))
+        (under : size g b f + length new ≤ span (g .words) (root g b f % g .words)) (most : size g b f + length new ≤ greatest g) where
+      abbrev tails : List Page
+      tails = tailPages (g .words) b fresh (root g b f % g .words) (root g b f / g .words) (size g b f) new c
+
+      abbrev others : List Store
+      others = inPlace (g .words) b (λ h l i. freshPointer (g .words) fresh h 0 l i) (root g b f % g .words) (root g b f / g .words) (size g b f) new c (rootAddress g b f)
+
+      module _ (room : c + length tails ≤ lim) where
+        abbrev tail-epoch : List Store
+        tail-epoch = stored (g .words) fresh tails c ++ others
+
+        taken : length tails ≡ tailNeed (g .words) (root g b f % g .words) (size g b f) (length new)
+        taken = length-tail (g .words) pos b fresh (root g b f % g .words) (root g b f / g .words) (size g b f) new c
+
+        tail-hidden : All (λ s. T (hidden g b s)) tail-epoch
+        tail-hidden = all-append (λ s. T (hidden g b s)) (stored (g .words) fresh tails c) others (stored-hidden g b fresh c lim supply fit tails room)
+            (in-tree-hidden (λ h l i. freshPointer (g .words) fresh h 0 l i) new c live small)
+
+        tail-once : (x : ℕ) → occ x (addresses tail-epoch) ≤ 1
+        tail-once x = omega (
+          arith,
+          occ-addresses-append x (stored (g .words) fresh tails c) others,
+          stored-once (g .words) fresh tails c x,
+          in-tree-once (λ h l i. freshPointer (g .words) fresh h 0 l i) new c live x,
+          supply-once g b fresh c lim supply (ok .once) (length tails) room (x / g .words),
+        )
+
+        tail-root : root g b f ≡ root g (performed b tail-epoch) f
+        tail-root = same tail-epoch tail-hidden tail-once .roots f f-lt live
+
+        Stood : Store → Type 0
+        Stood s = getD (performed b tail-epoch) (s .at) 0 ≡ s .value
+
+        pub tail-good : GoodStep g b f (step tail-epoch (sizeAddress g b f) (size g b f + length new)) (spliced g b f (size g b f) new (size g b f + length new))
+        unfolding Stood
+        tail-good =
+            let all-stand : Stands (performed b tail-epoch) tail-epoch = stands tail-epoch tail-hidden tail-once in
+            size-good tail-epoch tail-hidden tail-once (root g b f % g .words) (root g b f / g .words) (size g b f) (size g b f + length new) new
+            (λ q. used fresh q c (tailNeed (g .words) (root g b f % g .words) (size g b f) (length new))) (record {
+              old = tree-had;
+              height = ap (λ (x : ℕ). x % g .words) (sym tail-root);
+              low = ok .low f f-lt live;
+              most = most;
+              past = past-span (size g b f) new (span (g .words) (root g b f % g .words)) (size g b f + length new) under;
+              change = rw (← tail-root) (tail-changed (g .words) pos b (performed b tail-epoch) fresh lim (supply .nonzero) (blockCount g b - 1) (supply .below)
+                  (root g b f % g .words) (root g b f / g .words) (size g b f) (size g b f + length new) new c (rootAddress g b f) live (record {
+                    grows = omega arith;
+                    cover = λ i u v w. (u, v);
+                    visible = same tail-epoch tail-hidden tail-once .trees f f-lt;
+                    stands = all-right Stood (stored (g .words) fresh tails c) others all-stand;
+                  }) small (rw (← taken) room)
+                  (held-of-all (g .words) fresh (performed b tail-epoch) tails c (all-left Stood (stored (g .words) fresh tails c) others all-stand)) path);
+              fine = ok .tree f f-lt;
+              spare = λ q. rw (← taken) (supply-once g b fresh c lim supply (ok .once) (length tails) room q);
+            })
+
+    -- s = 0: *the old root is ignored and the least sufficient height is used*
+    module _ (empty : size g b f ≡ 0) (most : length new ≤ greatest g) where
+      abbrev h : ℕ
+      h = least (g .words) (g .height) (length new)
+
+      abbrev pages : List Page
+      pages = build (g .words) fresh b h 0 0 0 new c
+
+      abbrev hook : ℕ
+      hook = freshPointer (g .words) fresh h 0 (length new) c + h
+
+      module _ (room : c + length pages ≤ lim) where
+        abbrev first-epoch : List Store
+        first-epoch = stored (g .words) fresh pages c ++ (store (rootAddress g b f) hook ∷ [])
+
+        first-taken : length pages ≡ need (g .words) h 0 (length new)
+        first-taken = length-build (g .words) pos b fresh h 0 0 0 new c
+
+        first-hidden : All (λ s. T (hidden g b s)) first-epoch
+        unfolding All
+        first-hidden = all-append (λ s. T (hidden g b s)) (stored (g .words) fresh pages c) (store (rootAddress g b f) hook ∷ []) (stored-hidden g b fresh c lim supply fit pages room) (root-hidden hook empty, tt)
+
+        first-once : (x : ℕ) → occ x (addresses first-epoch) ≤ 1
+        unfolding occ store
+        first-once x = elim (decide x (rootAddress g b f)) [
+          | inl e ↦ rw e (omega (
+            arith,
+            occ-addresses-append (rootAddress g b f) (stored (g .words) fresh pages c) (store (rootAddress g b f) hook ∷ []),
+            one-same (rootAddress g b f),
+            addresses-away (rootAddress g b f) (stored (g .words) fresh pages c) (all-map (λ s. s .at ≢ rootAddress g b f) (λ s. rootAddress g b f ≢ s .at) (λ s d z. d (sym z)) (stored (g .words) fresh pages c)
+                (stored-not-live g b fresh c lim supply pages room (rootAddress g b f) (rw (root-block g fit b f) (leaf-live g b (f / g .inodes) (leaf-of g fit f f-lt))))),
+          ))
+          | inr d ↦ omega (
+            arith,
+            occ-addresses-append x (stored (g .words) fresh pages c) (store (rootAddress g b f) hook ∷ []),
+            one-other x (rootAddress g b f) d,
+            stored-apart g b fresh c lim supply pages room x,
+          )
+        ]
+
+        h-fits : h < g .words
+        h-fits = omega (arith, fit .heights-fit, least-within (g .words) pos (g .height) (length new))
+
+        hook-low : hook % g .words ≡ h
+        unfolding freshPointer
+        hook-low = mul-add-mod-self-left (g .words) (fresh (c + need (g .words) h 0 (length new) - 1)) h ∙ mod-eq-of-lt h-fits
+
+        hook-block : hook / g .words ≡ fresh (c + need (g .words) h 0 (length new) - 1)
+        unfolding freshPointer
+        hook-block = address-block (g .words) (fresh (c + need (g .words) h 0 (length new) - 1)) h h-fits
+
+        Held : Store → Type 0
+        Held s = getD (performed b first-epoch) (s .at) 0 ≡ s .value
+
+        pub empty-tail-good : GoodStep g b f (step first-epoch (sizeAddress g b f) (length new)) (spliced g b f (size g b f) new (length new))
+        unfolding Held All store greatest
+        empty-tail-good =
+            let all-stand : Stands (performed b first-epoch) first-epoch = stands first-epoch first-hidden first-once in
+            let top : ℕ = fresh (c + need (g .words) h 0 (length new) - 1) in
+            let root-is : root g (performed b first-epoch) f ≡ hook = root-stored first-epoch first-hidden hook
+            (all-right Held (stored (g .words) fresh pages c) (store (rootAddress g b f) hook ∷ []) all-stand .0) in
+            size-good first-epoch first-hidden first-once h 0 (size g b f) (length new) new (λ q. used fresh q c (need (g .words) h 0 (length new))) (record {
+              old = λ live. absurd (omega arith);
+              height = ap (λ (x : ℕ). x % g .words) root-is ∙ hook-low;
+              low = least-within (g .words) pos (g .height) (length new);
+              most = most;
+              past = past-span (size g b f) new (span (g .words) h) (length new) (omega (arith, least-reaches (g .words) pos (g .height) (length new) most));
+              change = rw (ap (λ (x : ℕ). x / g .words) root-is ∙ hook-block, empty) (build-changed (g .words) pos b fresh (performed b first-epoch) lim (supply .nonzero) (blockCount g b - 1) (supply .below)
+                  h 0 0 0 new c (length new) filled (rw (← first-taken) room) small
+                  (held-of-all (g .words) fresh (performed b first-epoch) pages c (all-left Held (stored (g .words) fresh pages c) (store (rootAddress g b f) hook ∷ []) all-stand))
+                  (agree-none (g .words) pos b (performed b first-epoch) h 0 0 refl) (omega arith) (λ i u v w. (u, omega arith)));
+              fine = rw (sound-null (g .words) b (blockCount g b - 1) h (size g b f)) tt;
+              spare = λ q. rw (← first-taken) (supply-once g b fresh c lim supply (ok .once) (length pages) room q);
+            })
