@@ -39,6 +39,7 @@ pub mod Committing
 pub mod GoodSteps
 pub mod InsideWays
 pub mod SizeWays
+pub mod Plans
 pub mod Supplied
 pub mod Alike
 pub mod BootPlans
