@@ -47,23 +47,27 @@ module _ (g : Layout) (b b₂ : List ℕ) where
   unfolding wordCountSound
   same-words e = rw e
 
+  -- the live blocks are those of b and at most the extra ones
+  pub commit-counts : {wanted : ℕ → List ℕ} {above : ℕ → ℕ} {beside within : ℕ → ℕ → ℕ} → Commit g b b₂ wanted above beside within
+      → (q : ℕ) → occ q (liveBlocks g b₂) ≤ occ q (liveBlocks g b) + above q + sum (g .leaves) (λ l. beside l q) + sum (files g) (λ f. within f q)
+  commit-counts {wanted} {above} {beside} {within} c q = omega (
+    arith,
+    c .inode q,
+    occ-live g b q,
+    occ-live g b₂ q,
+    sum-le (g .leaves) (λ l. one q (leaf g b₂ l)) (λ l. one q (leaf g b l) + beside l q) (λ l u. c .leaves-moved l u q),
+    sum-add (g .leaves) (λ l. one q (leaf g b l)) (λ l. beside l q),
+    sum-le (files g) (λ f. occ q (fileBlocks g b₂ f)) (λ f. occ q (fileBlocks g b f) + within f q) (λ f u. c .all-files f u .counts q),
+    sum-add (files g) (λ f. occ q (fileBlocks g b f)) (λ f. within f q),
+  )
+
   pub commit-accepted : {wanted : ℕ → List ℕ} {above : ℕ → ℕ} {beside within : ℕ → ℕ → ℕ} → Commit g b b₂ wanted above beside within → T (accepted g b) → T (accepted g b₂)
-  commit-accepted {wanted} {above} {beside} {within} c t = parts-accepted g b₂ (record {
+  commit-accepted c t = parts-accepted g b₂ (record {
     words = rw (← (same-words (c .lengths))) (accepted-parts g b t .words);
     trailers = c .trailers;
     leaves = c .leaves;
     files-sound = λ f u. c .all-files f u .sound;
-    once = λ q. omega (
-      arith,
-      c .spare q,
-      c .inode q,
-      occ-live g b q,
-      occ-live g b₂ q,
-      sum-le (g .leaves) (λ l. one q (leaf g b₂ l)) (λ l. one q (leaf g b l) + beside l q) (λ l u. c .leaves-moved l u q),
-      sum-add (g .leaves) (λ l. one q (leaf g b l)) (λ l. beside l q),
-      sum-le (files g) (λ f. occ q (fileBlocks g b₂ f)) (λ f. occ q (fileBlocks g b f) + within f q) (λ f u. c .all-files f u .counts q),
-      sum-add (files g) (λ f. occ q (fileBlocks g b f)) (λ f. within f q),
-    );
+    once = λ q. omega (arith, c .spare q, commit-counts c q);
   })
 
 -- ---- What a file becomes
@@ -240,3 +244,6 @@ module _ (g : Layout) (fit : Fits g) (b b₂ : List ℕ) (f : ℕ) (wanted : Lis
     reads = c .file .reads;
     kept = λ i u d. other i u d .reads;
   }
+
+  pub one-file-counts : (q : ℕ) → occ q (liveBlocks g b₂) ≤ occ q (liveBlocks g b) + beside q + within q
+  one-file-counts q = omega (arith, commit-counts g b b₂ commit q, sum-only (g .leaves) (f / g .inodes) (beside q), sum-only (files g) f (within q))

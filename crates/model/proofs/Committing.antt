@@ -11,7 +11,7 @@ use Rattle.model.specs.Board.{trailer, inodePointer, leaf, sizeAddress, 
 use Rattle.model.proofs.Counting.{one, occ}
 use Rattle.model.proofs.Shown.{Same, words-pos, leaf-of, same-accepted, same-address, same-blocks, trailer-kept, inode-kept, leaf-kept, leaf-sound-kept}
 use Rattle.model.proofs.Accepting.{accepted-parts, Facts, facts}
-use Rattle.model.proofs.Commits.{FileCommit, OneFile, Outcome, one-file, others-from}
+use Rattle.model.proofs.Commits.{FileCommit, OneFile, Outcome, one-file, one-file-counts, others-from}
 use Rattle.model.proofs.Apart.{Spot, spot-trailer, spot-pointer, spot-others}
 
 module _ (g : Layout) (fit : Fits g) (b c : List ℕ) (t : T (accepted g b)) (same : Same g b c) where
@@ -41,20 +41,26 @@ module _ (g : Layout) (fit : Fits g) (b c : List ℕ) (t : T (accepted g b)) (sa
     pointers : (l : ℕ) → l < g .leaves → inodePointer g b l ≡ inodePointer g b₂ l
     pointers l u = same .pointers l u ∙ spot-pointer g fit c facts-same f f-lt a v s l u
 
-    pub spot-commit : (wanted : List ℕ) (extra : ℕ → ℕ) → FileCommit g b b₂ f wanted extra → ((q : ℕ) → occ q (liveBlocks g b) + extra q ≤ 1) → Outcome g b b₂ f wanted
-    spot-commit wanted extra file spare =
-        let parts = accepted-parts g b t in
-        let stays : (l : ℕ) → l < g .leaves → leaf g b l ≡ leaf g b₂ l = λ l u. leaf-kept g fit b b₂ len l (pointers l u) in
-        one-file g fit b b₂ f wanted (λ q. 0) extra
-        (record {
-          lengths = len;
-          trailers = rw (← (trailer-kept g fit b b₂ len trailers)) (parts .trailers);
-          inode = inode-kept g fit b b₂ len trailers;
-          leaves = λ l u. rw (← (leaf-sound-kept g fit b b₂ len l (pointers l u))) (parts .leaves l u);
-          leaves-stay = λ l u d. stays l u;
-          leaf-moved = λ q. omega (arith, ap (one q) (stays (f / g .inodes) (leaf-of g fit f f-lt)));
-          others = others-from g (words-pos g fit) b c b₂ f same (spot-others g fit c facts-same f f-lt a v s);
-          file = file;
-          spare = λ q. omega (arith, spare q);
-        })
-        t
+    module _ (wanted : List ℕ) (extra : ℕ → ℕ) (file : FileCommit g b b₂ f wanted extra) (spare : (q : ℕ) → occ q (liveBlocks g b) + extra q ≤ 1) where
+      one-word : OneFile g b b₂ f wanted (λ q. 0) extra
+      one-word =
+          let parts = accepted-parts g b t in
+          let stays : (l : ℕ) → l < g .leaves → leaf g b l ≡ leaf g b₂ l = λ l u. leaf-kept g fit b b₂ len l (pointers l u) in
+          record {
+            lengths = len;
+            trailers = rw (← (trailer-kept g fit b b₂ len trailers)) (parts .trailers);
+            inode = inode-kept g fit b b₂ len trailers;
+            leaves = λ l u. rw (← (leaf-sound-kept g fit b b₂ len l (pointers l u))) (parts .leaves l u);
+            leaves-stay = λ l u d. stays l u;
+            leaf-moved = λ q. omega (arith, ap (one q) (stays (f / g .inodes) (leaf-of g fit f f-lt)));
+            others = others-from g (words-pos g fit) b c b₂ f same (spot-others g fit c facts-same f f-lt a v s);
+            file = file;
+            spare = λ q. omega (arith, spare q);
+          }
+
+      pub spot-commit : Outcome g b b₂ f wanted
+      spot-commit = one-file g fit b b₂ f wanted (λ q. 0) extra one-word t
+
+      -- the live blocks are those of b and at most the extra ones
+      pub spot-counts : (q : ℕ) → occ q (liveBlocks g b₂) ≤ occ q (liveBlocks g b) + extra q
+      spot-counts q = omega (arith, one-file-counts g fit b b₂ f wanted (λ q. 0) extra one-word t q)

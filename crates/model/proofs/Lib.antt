@@ -38,8 +38,11 @@ pub mod Apart
 pub mod Committing
 pub mod GoodSteps
 pub mod InsideWays
+pub mod GrowthWay
+pub mod LeafWay
 pub mod SizeWays
 pub mod Plans
+pub mod Rules
 pub mod Supplied
 pub mod Alike
 pub mod BootPlans

@@ -16,7 +16,8 @@ use Rattle.model.specs.Store.{Store, performed, epochs}
 use Rattle.model.specs.Hidden.{hidden}
 use Rattle.model.specs.Cut.{Cut, chosen, standing}
 use Rattle.model.specs.Safe.{left, SafePlan, decided}
-use Rattle.model.specs.Claims.{Shows, HiddenRule, CutSafe, SafeRule}
+use Rattle.model.specs.Claims.{Shows, CutSafe, SafeRule}
+use Rattle.model.proofs.HiddenStores.{hidden-rule}
 use Rattle.model.proofs.Cases.{decide, split}
 use Rattle.model.proofs.Perform.{performed-append}
 
@@ -103,7 +104,7 @@ data Stands (g : Layout) (b : List ℕ) (es : List (List Store)) (x : Cut) (now 
   stayed : x .arrived 0 ≡ false → now ≡ left b es (x .epoch) → Stands g b es x now
   moved : x .arrived 0 ≡ true → now ≡ left b es (suc (x .epoch)) → Stands g b es x now
 
-module _ (hidden-rule : HiddenRule) (g : Layout) (fit : Fits g) where
+module _ (g : Layout) (fit : Fits g) where
   -- stores that are hidden, all performed
   pub hidden-shows : (b : List ℕ) → T (accepted g b) → (ss : List Store) → T (all (hidden g b) ss) → Shows g b (performed b ss)
   hidden-shows b ok ss h = subst (λ (r : List Store). Shows g b (performed b r)) (chosen-all ss) (hidden-rule g fit b ok ss h (λ i. true))
@@ -240,12 +241,11 @@ module _ (ss : List Store) (none : epochs ss ≡ []) (b : List ℕ) where
     decides = λ n. absurd (n refl);
   }
 
-module _ (hidden-rule : HiddenRule) where
-  pub safe-rule : SafeRule
-  unfolding standing left now
-  safe-rule g fit b ok f f-lt ss d safe x x-lt = elim (decide (length (epochs ss)) 0) [
-    | inl z ↦
-        let none : epochs ss ≡ [] = empty-none (epochs ss) z in
-        rw (left-none ss none b) (none-safe ss none b g ok f x (decided d x))
-    | inr n ↦ now-safe hidden-rule g fit b ok f f-lt (epochs ss) d safe x (omega arith) ss (epochs-some ss (omega arith))
-  ]
+pub safe-rule : SafeRule
+unfolding standing left now
+safe-rule g fit b ok f f-lt ss d safe x x-lt = elim (decide (length (epochs ss)) 0) [
+  | inl z ↦
+      let none : epochs ss ≡ [] = empty-none (epochs ss) z in
+      rw (left-none ss none b) (none-safe ss none b g ok f x (decided d x))
+  | inr n ↦ now-safe g fit b ok f f-lt (epochs ss) d safe x (omega arith) ss (epochs-some ss (omega arith))
+]

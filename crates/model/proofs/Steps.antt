@@ -18,7 +18,7 @@ use Rattle.model.specs.Hidden.{hidden}
 use Rattle.model.specs.Plan.{Step, stepEpochs, planEpochs}
 use Rattle.model.specs.Cut.{Cut, Names, standing, lastArrived}
 use Rattle.model.specs.Safe.{left, SafePlan, decided}
-use Rattle.model.specs.Claims.{Shows, HiddenRule, CutSafe, Altered}
+use Rattle.model.specs.Claims.{Shows, CutSafe, Altered}
 use Rattle.model.proofs.Cases.{decide}
 use Rattle.model.proofs.Perform.{performed-append}
 use Rattle.model.proofs.Safety.{left-zero, left-cons, decided-early, decided-same, hidden-shows, none-safe, safe-rule}
@@ -147,17 +147,17 @@ module _ (g : Layout) (f : ℕ) where
           rw (left-cons b e es i, left-cons b e es (suc i))
           record { hides = t .hides i m; accepts = t .accepts i m; keeps = λ one n. t .keeps i m one (omega arith); others = t .others i m }
 
-module _ (hidden-rule : HiddenRule) (g : Layout) (fit : Fits g) (f : ℕ) (f-lt : f < files g) where
+module _ (g : Layout) (fit : Fits g) (f : ℕ) (f-lt : f < files g) where
   module _ (b : List ℕ) (ok : T (accepted g b)) where
     hidden-epoch : (ss : List Store) → T (all (hidden g b) ss) → (keeping : Type 0) → SafeEpoch g f b (performed b ss) ss keeping
     hidden-epoch ss h keeping =
-        let s : Shows g b (performed b ss) = hidden-shows hidden-rule g fit b ok ss h in
+        let s : Shows g b (performed b ss) = hidden-shows g fit b ok ss h in
         record { hides = λ l. h; accepts = λ one. rw (s .boards) ok; keeps = λ one t. s .reads f f-lt; others = λ one o l n. s .reads o l }
 
     commit-epoch : (p : Step) → SafeStep g b f p → (keeping : Type 0) → (keeping → contents g (committed b p) f ≡ contents g b f)
         → SafeEpoch g f (performed b (p .hidden)) (committed b p) (p .commit ∷ []) keeping
     commit-epoch p safe keeping kept =
-        let s : Shows g b (performed b (p .hidden)) = hidden-shows hidden-rule g fit b ok (p .hidden) (safe .hides) in
+        let s : Shows g b (performed b (p .hidden)) = hidden-shows g fit b ok (p .hidden) (safe .hides) in
         record {
           hides = λ l. absurd (omega arith);
           accepts = λ one. safe .accepts;
@@ -193,7 +193,7 @@ module _ (hidden-rule : HiddenRule) (g : Layout) (fit : Fits g) (f : ℕ) (f-lt 
       let some : 0 < length (epochs ss) = rw e (step-some (p .hidden) (p .commit) (planEpochs ps)) in
       let ends : EndsInOne (epochs ss) = rw e (ends-in-one (p ∷ ps)) in
       let whole : left b (epochs ss) (length (epochs ss)) ≡ allCommitted b (p ∷ ps) = rw e (left-steps b (p ∷ ps)) in
-      rw (whole, reads, decided-last ss some ends x x-lt) at (safe-rule hidden-rule g fit b ok f f-lt ss (length (epochs ss) - 1) safe x x-lt)
+      rw (whole, reads, decided-last ss some ends x x-lt) at (safe-rule g fit b ok f f-lt ss (length (epochs ss) - 1) safe x x-lt)
 
 -- performed whole, it alters file f alone
 pub steps-altered : (g : Layout) (b : List ℕ) → T (accepted g b) → (f : ℕ) (ps : List Step) → SafeSteps g b f ps → (wanted : List ℕ) → contents g (allCommitted b ps) f ≡ wanted

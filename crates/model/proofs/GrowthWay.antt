@@ -1,0 +1,240 @@
+-- Growth, the first step of a write that ends past its tree's span, is a good step: the file reads as before. On the board that it leaves the tree spans
+-- the write, and the fresh blocks that it did not take are still not live.
+use mathlib.Core.Path.{_≡_, refl, sym, ap, subst, _∙_}
+use mathlib.Core.Logic.{inl, inr}
+use mathlib.Core.Bool.{true, and-false}
+use mathlib.Core.List.{List, [], _∷_}
+use Prim.Native.Nat.{ℕ, zero, suc, _+_, _-_, _*_, _/_, _%_, _≤_, _<_}
+use native.Mathlib.Omega.{arith}
+use native.Mathlib.Nat.{mod-eq-of-lt, mul-add-mod-self-left}
+use lib.ListN.{length, set, length-set}
+use lib.Dec.{T}
+use borrow.Author.Tests.{lt-ltb, le-ltb}
+use Rattle.model.specs.Lists.{concat}
+use Rattle.model.specs.Layout.{Layout, Fits, files}
+use Rattle.model.specs.Tree.{live, span, least}
+use Rattle.model.specs.Board.{rootBlocks, greatest, blockCount, rootAddress, sizeAddress, root, size, contents, fileBlocks, liveBlocks, accepted}
+use Rattle.model.specs.Store.{Store, store, performed}
+use Rattle.model.specs.Hidden.{hidden}
+use Rattle.model.specs.Fresh.{Page, stored}
+use Rattle.model.specs.Plan.{Step, step, plan, planEpochs}
+use Rattle.model.specs.Change.{levels, levelTop, growthTo, growth}
+use Rattle.model.proofs.Cases.{split}
+use Rattle.model.proofs.Counting.{occ}
+use Rattle.model.proofs.Perform.{All, address-block}
+use Rattle.model.proofs.Addresses.{addresses, stands-set, held-of-all, used-none}
+use Rattle.model.proofs.Spans.{span-mono, least-reaches, least-within}
+use Rattle.model.proofs.Agree.{agree, agree-away, agree-blocks, agree-trans}
+use Rattle.model.proofs.Built.{held, used}
+use Rattle.model.proofs.Grown.{Grown, grown}
+use Rattle.model.proofs.Shown.{Same, words-pos, leaf-of, same-address, count-kept}
+use Rattle.model.proofs.Accepting.{accepted-parts, Facts, facts}
+use Rattle.model.proofs.Commits.{FileCommit, grown-commit}
+use Rattle.model.proofs.Apart.{Spot, leaf-not-file, spot-ranged, spot-live, spot-size, stored-root}
+use Rattle.model.proofs.Committing.{facts-same, spot-same, spot-commit, spot-counts}
+use Rattle.model.proofs.Supplied.{Supply, supply-once, stored-hidden, stored-apart, stored-not-live}
+use Rattle.model.proofs.Steps.{committed, allCommitted, performed-steps}
+use Rattle.model.proofs.GoodSteps.{GoodStep, epoch-same, epoch-stands}
+use Rattle.model.proofs.Visible.{root-block}
+
+-- ---- The plan
+
+module _ (g : Layout) (fresh : ℕ → ℕ) (b : List ℕ) (f h : ℕ) where
+  -- the pages of the levels
+  abbrev pub growthPages : List Page
+  growthPages = levels (g .words) fresh (root g b f / g .words) (h - root g b f % g .words)
+
+  -- the word that commits them
+  abbrev pub growthRoot : ℕ
+  growthRoot = g .words * levelTop fresh (root g b f / g .words) (h - root g b f % g .words) + h
+
+  -- growth to height h is one step
+  abbrev pub growthStep : Step
+  growthStep = step (stored (g .words) fresh growthPages 0) (rootAddress g b f) growthRoot
+
+  pub growth-one-step : growthTo g fresh b f h ≡ plan (growthStep ∷ []) (length growthPages)
+  unfolding growthTo
+  growth-one-step = refl
+
+  -- and the board with its stores performed is the one with the step committed
+  pub growth-performed : performed b (concat (planEpochs (growthTo g fresh b f h .steps))) ≡ committed b growthStep
+  unfolding growthTo plan allCommitted
+  growth-performed = performed-steps b (growthStep ∷ [])
+
+live-some : (n : ℕ) → 0 < n → live n ≡ true
+unfolding live
+live-some zero l = absurd (omega arith)
+live-some (suc n) l = refl
+
+module _ (g : Layout) (fresh : ℕ → ℕ) (b : List ℕ) (f e : ℕ) where
+  -- *If s > 0 and e exceeds the span, the least sufficient height is reached first*
+  pub growth-grows : 0 < size g b f → span (g .words) (root g b f % g .words) < e → growth g fresh b f e ≡ growthTo g fresh b f (least (g .words) (g .height) e)
+  unfolding growth
+  growth-grows some more = rw (live-some (size g b f) some, lt-ltb (span (g .words) (root g b f % g .words)) e more)
+
+  pub growth-empty : size g b f ≡ 0 → growth g fresh b f e ≡ plan [] 0
+  unfolding growth live
+  growth-empty z = rw z
+
+  pub growth-spanned : e ≤ span (g .words) (root g b f % g .words) → growth g fresh b f e ≡ plan [] 0
+  unfolding growth
+  growth-spanned l = rw (le-ltb (span (g .words) (root g b f % g .words)) e l, and-false)
+
+-- ---- The step
+
+-- a height that is not sufficient is no higher than the least that is
+least-above : (W : ℕ) → 0 < W → (h e x : ℕ) → e ≤ span W h → span W x < e → x ≤ least W h e
+least-above W pos h e x reach more = elim (split x (least W h e)) [
+  | inl l ↦ l
+  | inr l ↦ absurd (omega (arith, least-reaches W pos h e reach, span-mono W pos (least W h e) x (omega arith)))
+]
+
+module _ (g : Layout) (fit : Fits g) (b : List ℕ) (t : T (accepted g b)) (f : ℕ) (f-lt : f < files g) (some : 0 < size g b f) (fresh : ℕ → ℕ) (lim : ℕ) (supply : Supply g b fresh 0 lim)
+    (e : ℕ) (most : e ≤ greatest g) (more : span (g .words) (root g b f % g .words) < e) where
+  ok : Facts g b
+  ok = facts g fit b t
+
+  pos : 0 < g .words
+  pos = words-pos g fit
+
+  -- the height that is reached
+  abbrev h : ℕ
+  h = least (g .words) (g .height) e
+
+  reaches : e ≤ span (g .words) h
+  unfolding greatest
+  reaches = least-reaches (g .words) pos (g .height) e most
+
+  higher : root g b f % g .words ≤ h
+  unfolding greatest
+  higher = least-above (g .words) pos (g .height) e (root g b f % g .words) most more
+
+  low-enough : h ≤ g .height
+  low-enough = least-within (g .words) pos (g .height) e
+
+  abbrev ps : List Page
+  ps = growthPages g fresh b f h
+
+  abbrev top : ℕ
+  top = levelTop fresh (root g b f / g .words) (h - root g b f % g .words)
+
+  module _ (room : growthTo g fresh b f h .taken ≤ lim) where
+    fits : 0 + length ps ≤ lim
+    unfolding growthTo plan
+    fits = omega (arith, room)
+
+    abbrev ss : List Store
+    ss = stored (g .words) fresh ps 0
+
+    hides : All (λ s. T (hidden g b s)) ss
+    hides = stored-hidden g b fresh 0 lim supply fit ps fits
+
+    once : (x : ℕ) → occ x (addresses ss) ≤ 1
+    once = stored-apart g b fresh 0 lim supply ps fits
+
+    c₁ : List ℕ
+    c₁ = performed b ss
+
+    shown-same : Same g b c₁
+    unfolding c₁
+    shown-same = epoch-same g fit b t ss hides
+
+    value : ℕ
+    value = growthRoot g fresh b f h
+
+    -- the board with the commit
+    done : List ℕ
+    done = set c₁ (rootAddress g b f) value
+
+    address-same : rootAddress g b f ≡ rootAddress g c₁ f
+    address-same = same-address g fit b c₁ shown-same f (leaf-of g fit f f-lt)
+
+    lent-spot : Spot g fit b ok f f-lt (rootAddress g b f)
+    lent-spot = inl (inl refl)
+
+    commit-spot : Spot g fit c₁ (facts-same g fit b c₁ t shown-same) f f-lt (rootAddress g b f)
+    commit-spot = spot-same g fit b c₁ t shown-same f f-lt (rootAddress g b f) lent-spot
+
+    pages-held : held (g .words) fresh done ps 0
+    unfolding done c₁
+    pages-held = held-of-all (g .words) fresh done ps 0 (stands-set c₁ ss (rootAddress g b f) value
+        (stored-not-live g b fresh 0 lim supply ps fits (rootAddress g b f) (spot-live g fit b ok f f-lt (rootAddress g b f) lent-spot)) (epoch-stands g fit b t ss hides once))
+
+    root-done : root g done f ≡ value
+    unfolding done
+    root-done = stored-root g fit c₁ (facts-same g fit b c₁ t shown-same) f f-lt (rootAddress g b f) value commit-spot address-same
+
+    height-done : root g done f % g .words ≡ h
+    unfolding value
+    height-done = ap (λ (x : ℕ). x % g .words) root-done ∙ mul-add-mod-self-left (g .words) top h ∙ mod-eq-of-lt (omega (arith, fit .heights-fit, low-enough))
+
+    block-done : root g done f / g .words ≡ top
+    unfolding value
+    block-done = ap (λ (x : ℕ). x / g .words) root-done ∙ address-block (g .words) top h (omega (arith, fit .heights-fit, low-enough))
+
+    size-done : size g b f ≡ size g done f
+    unfolding done sizeAddress
+    size-done = shown-same .sizes f f-lt ∙ spot-size g fit c₁ (facts-same g fit b c₁ t shown-same) f f-lt (rootAddress g b f) value commit-spot f f-lt (λ x. omega (arith, x, address-same))
+
+    len : length b ≡ length done
+    unfolding done
+    len = shown-same .lengths ∙ sym (length-set c₁ (rootAddress g b f) value)
+
+    -- the root is in no block of the tree
+    tree-stays : agree (g .words) b done (root g b f % g .words) (root g b f / g .words) (size g b f)
+    unfolding done fileBlocks rootBlocks
+    tree-stays =
+        let tree = shown-same .trees f f-lt in
+        let away : occ (rootAddress g b f / g .words) (fileBlocks g b f) ≡ 0 = rw (root-block g fit b f) (leaf-not-file g b (ok .once) (f / g .inodes) f (leaf-of g fit f f-lt) f-lt) in
+        agree-trans (g .words) pos b c₁ done (root g b f % g .words) (root g b f / g .words) (size g b f) tree
+        (agree-away (g .words) pos c₁ (rootAddress g b f) value (root g b f % g .words) (root g b f / g .words) (size g b f)
+        (rw (← (agree-blocks (g .words) pos b c₁ (root g b f % g .words) (root g b f / g .words) (size g b f) tree)) away))
+
+    tree-grown : Grown (g .words) b done (blockCount g b - 1) (root g b f % g .words) (root g b f / g .words) h (root g done f / g .words) (size g b f) (λ q. used fresh q 0 (length ps))
+    tree-grown =
+        let reached : root g b f % g .words + (h - root g b f % g .words) ≡ h = omega (arith, higher) in
+        rw block-done (subst (λ (x : ℕ). Grown (g .words) b done (blockCount g b - 1) (root g b f % g .words) (root g b f / g .words) x top (size g b f) (λ q. used fresh q 0 (length ps))) reached
+        (grown (g .words) pos b done (blockCount g b - 1) fresh lim (supply .nonzero) (supply .below) (root g b f % g .words) (root g b f / g .words) (size g b f) (h - root g b f % g .words) (omega (arith, fits)) pages-held tree-stays))
+
+    file-grown : FileCommit g b done f (contents g b f) (λ q. used fresh q 0 (length ps))
+    file-grown = grown-commit g fit b done len f h (λ q. used fresh q 0 (length ps)) some size-done height-done low-enough tree-grown (accepted-parts g b t .files-sound f f-lt)
+
+    met-once : (q : ℕ) → occ q (liveBlocks g b) + used fresh q 0 (length ps) ≤ 1
+    met-once = supply-once g b fresh 0 lim supply (ok .once) (length ps) fits
+
+    pub growth-good : GoodStep g b f (growthStep g fresh b f h) (contents g b f)
+    unfolding step store committed done c₁ value
+    growth-good = record {
+      hides = hides;
+      once = once;
+      within = spot-ranged g fit b ok f f-lt (rootAddress g b f) lent-spot;
+      outcome = spot-commit g fit b c₁ t shown-same f f-lt (rootAddress g b f) value commit-spot (contents g b f) (λ q. used fresh q 0 (length ps)) file-grown met-once;
+    }
+
+    -- ---- The grown board
+
+    pub growth-size : size g (committed b (growthStep g fresh b f h)) f ≡ size g b f
+    unfolding step store committed done c₁ value
+    growth-size = sym size-done
+
+    pub growth-height : root g (committed b (growthStep g fresh b f h)) f % g .words ≡ h
+    unfolding step store committed done c₁ value
+    growth-height = height-done
+
+    pub growth-reaches : e ≤ span (g .words) (root g (committed b (growthStep g fresh b f h)) f % g .words)
+    growth-reaches = rw growth-height reaches
+
+    -- the live blocks are those of b and at most those of the levels
+    counts-done : (q : ℕ) → occ q (liveBlocks g done) ≤ occ q (liveBlocks g b) + used fresh q 0 (length ps)
+    unfolding done
+    counts-done = spot-counts g fit b c₁ t shown-same f f-lt (rootAddress g b f) value commit-spot (contents g b f) (λ q. used fresh q 0 (length ps)) file-grown met-once
+
+    -- so the fresh blocks that are left are still not live
+    pub growth-supply : Supply g (committed b (growthStep g fresh b f h)) fresh (growthTo g fresh b f h .taken) lim
+    unfolding step store committed done c₁ value growthTo plan
+    growth-supply = record {
+      nonzero = supply .nonzero;
+      below = λ i l. rw (← (count-kept g fit b done len)) (supply .below i l);
+      apart = supply .apart;
+      spare = λ i u l. omega (arith, counts-done (fresh i), supply .spare i (omega arith) l, used-none fresh (fresh i) 0 (length ps) (λ j v w x. supply .apart j i (omega arith) l (sym x)));
+    }

@@ -1,0 +1,225 @@
+-- The power-cut rule, accuracy and the shape of plans, from the fact that the plan of every write and length change is made of good steps.
+use mathlib.Core.Path.{_≡_, refl, _∙_}
+use mathlib.Core.Logic.{_≢_, _⊎_, inl, inr}
+use mathlib.Core.List.{List, [], _∷_, _++_}
+use Prim.Native.Nat.{ℕ, zero, suc, _+_, _-_, _/_, _^_, _≤_, _<_}
+use native.Mathlib.Omega.{arith}
+use lib.ListN.{length, take, drop, replicate, length-set}
+use lib.Dec.{T, leb, ltb, ltb→lt}
+use borrow.Author.Tests.{leb-false, ltb-false}
+use Rattle.model.specs.declared.Fault.{Fault}
+use Rattle.model.specs.declared.Fault.the-variants.{FileNumber, Offset, End, FreeBlocks}
+use Rattle.model.specs.declared.Answer.{Answer}
+use Rattle.model.specs.declared.Answer.the-variants.{Done, Refused}
+use Rattle.model.specs.Lists.{all, filter, concat, member, distinct}
+use Rattle.model.specs.Layout.{Layout, Fits, files}
+use Rattle.model.specs.Board.{greatest, size, contents, free, inRange, accepted}
+use Rattle.model.specs.Answers.{Faults, unlessRefused}
+use Rattle.model.specs.Store.{Store, performed, stores, epochs, fenced}
+use Rattle.model.specs.Hidden.{hidden}
+use Rattle.model.specs.Plan.{Step, stepEpochs, planEpochs, Plan, pairs}
+use Rattle.model.specs.Change.{writePlan, lengthPlan}
+use Rattle.model.specs.Calls.{boardFaults, fileFaults, Planned, planned, lowest, writeFaults, write, setLength}
+use Rattle.model.specs.Cut.{Change, writing, lengthTo, fileOf, called, planOf, altered, after, Cut, Names, standing, lastArrived}
+use Rattle.model.specs.Claims.{Shaped, CutSafe, Altered, PlanRule, PowerCutRule, AccuracyRule}
+use Rattle.model.proofs.Cases.{and-left, and-right}
+use Rattle.model.proofs.Counting.{occ, occ-distinct}
+use Rattle.model.proofs.Perform.{All, all-append, length-performed, Plain, stores-fenced}
+use Rattle.model.proofs.Addresses.{addresses, all-left, all-right, all-map, all-holds}
+use Rattle.model.proofs.Epochs.{Full, epochs-fenced, shaped, shaped-none, Passed, Refusing, planned-either}
+use Rattle.model.proofs.Splice.{Small}
+use Rattle.model.proofs.Formatted.{count-same}
+use Rattle.model.proofs.Accepting.{Ranged, in-range, facts, address-on-board}
+use Rattle.model.proofs.HiddenStores.{hidden-in-range, hidden-rule}
+use Rattle.model.proofs.Safety.{none-safe}
+use Rattle.model.proofs.Steps.{committed, allCommitted, SafeSteps, one-step, performed-steps, steps-rule, steps-altered}
+use Rattle.model.proofs.Plans.{write-good, length-good}
+use Rattle.model.proofs.GoodSteps.{GoodStep, good-safe, GoodSteps}
+
+-- ---- Good steps are safe, and leave the file reading as wanted
+
+module _ (g : Layout) (f : ℕ) (wanted : List ℕ) where
+  pub good-safe-steps : (b : List ℕ) (ps : List Step) → GoodSteps g b f ps wanted → SafeSteps g b f ps
+  unfolding GoodSteps SafeSteps
+  good-safe-steps b [] s = tt
+  good-safe-steps b (p ∷ []) s = one-step g b f p (good-safe g b f p wanted s)
+  good-safe-steps b (p ∷ q ∷ ps) s = (good-safe g b f p (contents g b f) (s .0), λ l. s .0 .outcome .reads, good-safe-steps (committed b p) (q ∷ ps) (s .1))
+
+  pub good-reads : (b : List ℕ) (ps : List Step) → GoodSteps g b f ps wanted → contents g (allCommitted b ps) f ≡ wanted
+  unfolding GoodSteps allCommitted
+  good-reads b [] s = s
+  good-reads b (p ∷ []) s = s .outcome .reads
+  good-reads b (p ∷ q ∷ ps) s = good-reads (committed b p) (q ∷ ps) (s .1)
+
+-- ---- Their epochs
+
+length-committed : (b : List ℕ) (p : Step) → length (committed b p) ≡ length b
+unfolding committed
+length-committed b p = length-set (performed b (p .hidden)) (p .commit .at) (p .commit .value) ∙ length-performed b (p .hidden)
+
+all-concat : {A : Type 0} (P : A → Type 0) (xss : List (List A)) → All (All P) xss → All P (concat xss)
+unfolding All concat
+all-concat P [] h = tt
+all-concat P (xs ∷ xss) h = all-append P xs (concat xss) (h .0) (all-concat P xss (h .1))
+
+-- the store goes to one of blocks 1 to B − 2
+abbrev Inside : Layout → List ℕ → Store → Type 0
+Inside g b s = Ranged g b (s .at / g .words)
+
+-- an epoch of such stores, no two of them to one word
+record GoodEpoch (g : Layout) (b : List ℕ) (e : List Store) : Type 0 where
+  full : Full e
+  once : T (distinct (addresses e))
+  within : All (Inside g b) e
+
+module _ (g : Layout) (fit : Fits g) (b : List ℕ) where
+  one-store : (s : Store) → Inside g b s → GoodEpoch g b (s ∷ [])
+  unfolding All distinct member
+  one-store s r = record { full = omega arith; once = tt; within = (r, tt) }
+
+  step-epochs : (ss : List Store) (s : Store) → ((x : ℕ) → occ x (addresses ss) ≤ 1) → All (Inside g b) ss → Inside g b s → All (GoodEpoch g b) (stepEpochs ss s)
+  unfolding All stepEpochs
+  step-epochs [] s once rs r = (one-store s r, tt)
+  step-epochs (h ∷ ss) s once rs r = (record { full = omega arith; once = occ-distinct (addresses (h ∷ ss)) once; within = rs }, (one-store s r, tt))
+
+  module _ (f : ℕ) (wanted : List ℕ) where
+    -- c is a board along the way, as long as b, so what is in range on it is in range on b
+    good-step-epochs : (c : List ℕ) → length c ≡ length b → T (accepted g c) → (p : Step) (w : List ℕ) → GoodStep g c f p w → All (GoodEpoch g b) (stepEpochs (p .hidden) (p .commit))
+    good-step-epochs c e t p w s = step-epochs (p .hidden) (p .commit) (s .once)
+        (all-map (λ x. T (hidden g c x)) (Inside g b) (λ x h. same (hidden-in-range g fit c t x h)) (p .hidden) (s .hides)) (same (s .within))
+      where
+        same : {k : ℕ} → Ranged g c k → Ranged g b k
+        same r = rw (count-same g b c e) at r
+
+    good-epochs : (c : List ℕ) → length c ≡ length b → T (accepted g c) → (ps : List Step) → GoodSteps g c f ps wanted → All (GoodEpoch g b) (planEpochs ps)
+    unfolding GoodSteps planEpochs All
+    good-epochs c e t [] s = tt
+    good-epochs c e t (p ∷ []) s = all-append (GoodEpoch g b) (stepEpochs (p .hidden) (p .commit)) [] (good-step-epochs c e t p wanted s) tt
+    good-epochs c e t (p ∷ q ∷ ps) s = all-append (GoodEpoch g b) (stepEpochs (p .hidden) (p .commit)) (planEpochs (q ∷ ps)) (good-step-epochs c e t p (contents g c f) (s .0))
+        (good-epochs (committed c p) (length-committed c p ∙ e) (s .0 .outcome .board) (q ∷ ps) (s .1))
+
+-- ---- A plan of good steps
+
+module _ (g : Layout) (fit : Fits g) (b : List ℕ) (t : T (accepted g b)) (f : ℕ) (ps : List Step) (wanted : List ℕ) (good : GoodSteps g b f ps wanted) where
+  all-good : All (GoodEpoch g b) (planEpochs ps)
+  all-good = good-epochs g fit b f wanted b refl t ps good
+
+  all-full : All Full (planEpochs ps)
+  all-full = all-map (GoodEpoch g b) Full (λ e h. h .full) (planEpochs ps) all-good
+
+  -- the board is too short for a barrier's address
+  no-barrier : (s : Store) → Inside g b s → s .at ≢ 2 ^ 64 - 1
+  no-barrier s r = let n = facts g fit b t .sizes in omega (arith, n .below, address-on-board g fit b n (s .at) (omega (arith, r .1)))
+
+  all-plain : All Plain (planEpochs ps)
+  all-plain = all-map (GoodEpoch g b) Plain (λ e h. all-map (Inside g b) (λ s. s .at ≢ 2 ^ 64 - 1) no-barrier e (h .within)) (planEpochs ps) all-good
+
+  pub plan-epochs : epochs (fenced (planEpochs ps)) ≡ planEpochs ps
+  plan-epochs = epochs-fenced (planEpochs ps) all-full all-plain
+
+  pub plan-stores : stores (fenced (planEpochs ps)) ≡ concat (planEpochs ps)
+  plan-stores = stores-fenced (planEpochs ps) all-plain
+
+  pub plan-shaped : Shaped (fenced (planEpochs ps))
+  plan-shaped = shaped (planEpochs ps) all-full all-plain (all-map (GoodEpoch g b) (λ e. T (distinct (addresses e))) (λ e h. h .once) (planEpochs ps) all-good)
+
+  pub plan-within : T (all (λ s. inRange g b (s .at / g .words)) (stores (fenced (planEpochs ps))))
+  plan-within =
+      let Ok : Store → Type 0 = λ s. T (inRange g b (s .at / g .words)) in
+      let each : All (All Ok) (planEpochs ps) = all-map (GoodEpoch g b) (All Ok) (λ e h. all-map (Inside g b) Ok (λ s r. in-range g b (s .at / g .words) r) e (h .within)) (planEpochs ps) all-good in
+      rw plan-stores (all-holds (λ s. inRange g b (s .at / g .words)) (concat (planEpochs ps)) (all-concat Ok (planEpochs ps) each))
+
+  -- performed whole, it alters file f alone
+  pub plan-altered : Altered g b (performed b (stores (fenced (planEpochs ps)))) f wanted
+  plan-altered = rw (plan-stores, performed-steps b ps) (steps-altered g b t f ps (good-safe-steps g f wanted b ps good) wanted (good-reads g f wanted b ps good))
+
+  -- cut anywhere, it obeys the power-cut rule
+  pub plan-cut : f < files g → (x : Cut) → let ss : List Store = fenced (planEpochs ps) in Names ss x → CutSafe g b (standing ss x b) f wanted ss (lastArrived ss x)
+  plan-cut u = steps-rule g fit f u b t ps (good-safe-steps g f wanted b ps good) wanted (good-reads g f wanted b ps good) (fenced (planEpochs ps)) plan-epochs
+
+-- ---- Calls
+
+bytes-small : (xs : List ℕ) → T (all (λ x. ltb x 256) xs) → Small xs
+unfolding all
+bytes-small [] t i = omega arith
+bytes-small (x ∷ xs) t zero = ltb→lt x 256 (and-left (ltb x 256) (all (λ y. ltb y 256) xs) t)
+bytes-small (x ∷ xs) t (suc i) = bytes-small xs (and-right (ltb x 256) (all (λ y. ltb y 256) xs) t) i
+
+-- the call is done, and its plan is that of steps which alter its file as it asks
+pub record Doing (g : Layout) (b : List ℕ) (c : Change) (p : Planned) : Type 0 where
+  pub steps : List Step
+  pub file-in : fileOf c < files g
+  pub good : GoodSteps g b (fileOf c) steps (altered c (contents g b (fileOf c)))
+  pub answers : p .answer ≡ Done (length (fenced (planEpochs steps)))
+  pub plans : planOf p ≡ fenced (planEpochs steps)
+
+-- so it is, or refused, where the plan that it lays out has such steps once no fault was found
+doing-either : (g : Layout) (b : List ℕ) (c : Change) (faults : Faults) (q : Plan) (slice : List ℕ)
+    → (All Passed faults → (fileOf c < files g) × GoodSteps g b (fileOf c) (q .steps) (altered c (contents g b (fileOf c))))
+    → let p : Planned = planned faults (pairs q) slice in
+    Doing g b c p ⊎ Refusing p
+unfolding pairs
+doing-either g b c faults q slice good = elim (planned-either faults (pairs q) slice) [
+  | inl d ↦ inl (record { steps = q .steps; file-in = good (d .passed) .0; good = good (d .passed) .1; answers = d .answers; plans = d .plans })
+  | inr r ↦ inr r
+]
+
+file-passed : (g : Layout) (b : List ℕ) (f : ℕ) → All Passed (fileFaults g b f) → f < files g
+unfolding fileFaults All
+file-passed g b f h = leb-false (files g) f (all-right Passed (boardFaults g b) ((FileNumber, leb (files g) f) ∷ []) h .0)
+
+after-done : (c : Change) (before : List ℕ) {a : Answer} {n : ℕ} → a ≡ Done n → after c a before ≡ altered c before
+unfolding after unlessRefused
+after-done c before e = rw e
+
+after-refused : (c : Change) (before : List ℕ) {a : Answer} {f : Fault} → a ≡ Refused f → after c a before ≡ before
+unfolding after unlessRefused
+after-refused c before e = rw e
+
+-- every call is done by good steps or refused, and without a plan then
+pub call-either : (g : Layout) → Fits g → (b : List ℕ) → T (accepted g b) → (c : Change) (slice : List ℕ)
+    → let p : Planned = called g b c slice in
+    Doing g b c p ⊎ Refusing p
+unfolding called write setLength writeFaults fileOf altered All
+call-either g fit b t (writing f o new) slice =
+    let q : Plan = writePlan g (lowest g b) b f o (new .values) in
+    let e : ℕ = o + length (new .values) in
+    let own : Faults = (Offset, ltb (size g b f) o) ∷ (End, ltb (greatest g) e) ∷ (FreeBlocks, ltb (length (free g b)) (q .taken)) ∷ [] in
+    doing-either g b (writing f o new) (fileFaults g b f ++ own) q slice (λ h.
+    let file : f < files g = file-passed g b f (all-left Passed (fileFaults g b f) own h) in
+    let rest : All Passed own = all-right Passed (fileFaults g b f) own h in (
+      file,
+      write-good g fit b t f file o (ltb-false (size g b f) o (rest .0)) (new .values) (bytes-small (new .values) (new .small)) (ltb-false (greatest g) e (rest .1 .0)) (ltb-false (length (free g b)) (q .taken) (rest .1 .1 .0)),
+    ))
+call-either g fit b t (lengthTo f n) slice =
+    let own : Faults = (End, ltb (greatest g) n) ∷ [] in
+    doing-either g b (lengthTo f n) (fileFaults g b f ++ own) (lengthPlan g b f n) slice (λ h.
+    let file : f < files g = file-passed g b f (all-left Passed (fileFaults g b f) own h) in
+    (file, length-good g fit b t f file n (ltb-false (greatest g) n (all-right Passed (fileFaults g b f) own h .0))))
+
+pub power-cut-rule : PowerCutRule
+unfolding epochs
+power-cut-rule g fit b t c slice x =
+    let before : List ℕ = contents g b (fileOf c) in
+    elim (call-either g fit b t c slice) [
+      | inl d ↦ rw (after-done c before (d .answers), d .plans) (plan-cut g fit b t (fileOf c) (d .steps) (altered c before) (d .good) (d .file-in) x)
+      | inr r ↦ rw (after-refused c before (r .answers), r .plans) (λ l. none-safe [] refl b g t (fileOf c) x (lastArrived [] x))
+    ]
+
+pub accuracy-rule : AccuracyRule
+unfolding performed stores filter
+accuracy-rule g fit b t c slice =
+    let before : List ℕ = contents g b (fileOf c) in
+    elim (call-either g fit b t c slice) [
+      | inl d ↦ rw (after-done c before (d .answers), d .plans) (plan-altered g fit b t (fileOf c) (d .steps) (altered c before) (d .good))
+      | inr r ↦ rw (after-refused c before (r .answers), r .plans) record { board = t; file = refl; others = λ e l n. refl }
+    ]
+
+pub plan-rule : PlanRule
+unfolding all stores filter
+plan-rule g fit b t c slice =
+    let wanted : List ℕ = altered c (contents g b (fileOf c)) in
+    elim (call-either g fit b t c slice) [
+      | inl d ↦ rw (d .plans) (plan-shaped g fit b t (fileOf c) (d .steps) wanted (d .good), plan-within g fit b t (fileOf c) (d .steps) wanted (d .good))
+      | inr r ↦ rw (r .plans) (shaped-none, tt)
+    ]
