@@ -1,5 +1,4 @@
 -- What it says of a board that it is accepted, as facts on numbers.
-use mathlib.Core.Path.{_≡_}
 use mathlib.Core.Logic.{inl, inr}
 use mathlib.Core.Bool.{Bool, _&&_}
 use mathlib.Core.List.{List}
@@ -7,11 +6,11 @@ use Prim.Native.Nat.{ℕ, zero, suc, _+_, _-_, _*_, _/_, _%_, _≤_, _<_}
 use native.Mathlib.Omega.{arith}
 use native.Mathlib.Nat.{mod-lt, div-add-mod', mul-comm}
 use lib.ListN.{length}
-use lib.Dec.{T, leb, ltb, eqb, leb→le, ltb→lt, lt→ltb, eqb→eq}
+use lib.Dec.{T, leb, ltb, eqb, leb→le, ltb→lt, lt→ltb}
 use Rattle.model.specs.Lists.{every, distinct}
 use Rattle.model.specs.Layout.{Layout, Fits, files}
-use Rattle.model.specs.Tree.{sound, blocks}
-use Rattle.model.specs.Board.{rootBlocks, rootSound, trailerWord, greatest, blockCount, trailer, inodeBlock, inodePointer, leaf, root, size, fileBlocks, liveBlocks, inRange, wordCountSound, trailerSound, leafSound, fileSound, treesSound, accepted}
+use Rattle.model.specs.Tree.{sound}
+use Rattle.model.specs.Board.{rootSound, trailerWord, greatest, blockCount, trailer, inodeBlock, inodePointer, leaf, root, size, liveBlocks, inRange, wordCountSound, trailerSound, leafSound, fileSound, treesSound, accepted}
 use Rattle.model.proofs.Cases.{split, and-left, and-right, and-both, every-of, every-all}
 use Rattle.model.proofs.Counting.{occ, distinct-occ, occ-distinct}
 use Rattle.model.proofs.Perform.{block-on}

@@ -10,7 +10,7 @@ use lib.ListN.{length, getD, set, length-set}
 use lib.Seq.{getD-set-same, getD-set-other, set-out}
 use lib.Dec.{T, ltb, lt→ltb, ltb→lt}
 use borrow.Author.Tests.{lt-ltb, le-ltb}
-use Rattle.model.specs.Lists.{every, joined, sum}
+use Rattle.model.specs.Lists.{sum}
 use Rattle.model.specs.Words.{byteOf}
 use Rattle.model.specs.Tree.{seen, span, aligned, cell, link, blocks, sound}
 use Rattle.model.specs.Store.{Store, performed}
@@ -19,7 +19,7 @@ use Rattle.model.proofs.Sums.{sum-at, sum-zero}
 use Rattle.model.proofs.Counting.{one, occ, one-same, occ-joined}
 use Rattle.model.proofs.Bytes.{byteOf-lt}
 use Rattle.model.proofs.Spans.{child, span-pos}
-use Rattle.model.proofs.Trees.{blocks-dead, blocks-null, sound-dead, sound-null}
+use Rattle.model.proofs.Trees.{blocks-dead, blocks-null, sound-dead, sound-null, childBlocks}
 use Rattle.model.proofs.Perform.{All, address-block}
 
 module _ (W : ℕ) where
@@ -359,6 +359,18 @@ module _ (W : ℕ) (pos : 0 < W) where
   occ-node b h zero n q p r = absurd (omega arith)
   occ-node b h (suc k) zero q p r = absurd (omega arith)
   occ-node b h (suc k) (suc n) q p r = omega (arith, occ-joined q W (λ j. blocks W b h (cell W b (suc k) j / W) (suc n - j * span W h)))
+
+  -- the blocks of a live pointer block's tree, by children
+  module _ (b : List ℕ) (h k n : ℕ) (live : 0 < n) where
+    pub occ-children : (q : ℕ) → occ q (blocks W b (suc h) (suc k) n) ≡ one q (suc k) + sum W (λ i. occ q (childBlocks W b h (suc k) n i))
+    unfolding beneath link
+    occ-children q = occ-node b h (suc k) n q (omega arith) live
+
+    pub occ-root : 0 < occ (suc k) (blocks W b (suc h) (suc k) n)
+    occ-root = omega (arith, occ-children (suc k), one-same (suc k))
+
+    pub occ-child : (q j : ℕ) → j < W → one q (suc k) + occ q (childBlocks W b h (suc k) n j) ≤ occ q (blocks W b (suc h) (suc k) n)
+    occ-child q j l = omega (arith, occ-children q, sum-at W (λ i. occ q (childBlocks W b h (suc k) n i)) j l)
 
   pub sound-root : (top : ℕ) (b : List ℕ) (h k n : ℕ) → 0 < k → 0 < n → T (sound W b top (suc h) k n) → k < top
   unfolding sound

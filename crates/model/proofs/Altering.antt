@@ -11,7 +11,7 @@ use Rattle.model.specs.Tree.{seen}
 use Rattle.model.specs.Fresh.{splice}
 use Rattle.model.proofs.Cases.{split, decide}
 use Rattle.model.proofs.Perform.{length-tabulate}
-use Rattle.model.proofs.Agree.{seen-live, seen-dead}
+use Rattle.model.proofs.Agree.{seen-live}
 use Rattle.model.proofs.Splice.{splice-in, splice-left, splice-right, splice-none}
 
 pub getD-tabulate : {A : Type 0} (m : ℕ) (f : ℕ → A) (d : A) (i : ℕ) → i < m → getD (tabulate m f) i d ≡ f i

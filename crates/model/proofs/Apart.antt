@@ -12,10 +12,10 @@ use lib.Dec.{T, ltb→lt}
 use Rattle.model.specs.Layout.{Layout, Fits, files}
 use Rattle.model.specs.Tree.{span, cell, link, blocks, sound}
 use Rattle.model.specs.Board.{blockCount, trailer, inodeBlock, inodePointer, leaf, rootAddress, sizeAddress, root, size, rootBlocks, fileBlocks, liveBlocks}
-use Rattle.model.proofs.Cases.{split, decide}
+use Rattle.model.proofs.Cases.{decide}
 use Rattle.model.proofs.Sums.{sum-at, sum-two, sum-some}
 use Rattle.model.proofs.Counting.{one, occ, one-same, one-other}
-use Rattle.model.proofs.Perform.{address-block, blocks-differ}
+use Rattle.model.proofs.Perform.{address-block}
 use Rattle.model.proofs.Agree.{agree-away, cell-away, beneath, occ-above, sound-child, sound-root}
 use Rattle.model.proofs.Shown.{words-pos, occ-live, leaf-live, file-live, leaf-of, slot}
 use Rattle.model.proofs.Accepting.{Facts, Ranged, address-on-board}

@@ -24,7 +24,7 @@ use Rattle.model.specs.Answers.{Faults, answered, unlessRefused}
 use Rattle.model.specs.Calls.{wordCountFault, boardFaults, fileFaults, checkAnswer, freeCountAnswer, sizeAnswer, readCount, readAnswer, readBuffer, planned, lowest, writeFaults, write, setLength, format, performFaults, performAnswer}
 use Rattle.model.specs.Cut.{Change, writing, lengthTo, called}
 use Rattle.model.specs.Claims.{SameCalls, BootRule}
-use Rattle.model.proofs.Cases.{decide, true-left, true-right}
+use Rattle.model.proofs.Cases.{decide, true-left, true-right, every-cong, joined-cong}
 use Rattle.model.proofs.Formatted.{counted}
 use Rattle.model.proofs.Alike.{Alike, dropped-alike, Found, count-alike, trailer-alike, inode-alike, pointer-alike, leaf-alike, size-alike, file-blocks-alike, file-sound-alike, contents-alike}
 use Rattle.model.proofs.BootPlans.{length-plan-alike, Clear, write-plan-alike}
@@ -36,11 +36,6 @@ and-alike : (s s′ r r′ : Bool) → s ≡ s′ → (s ≡ true → r ≡ r′
 and-alike true s′ r r′ e f = λ t. e t && f refl t
 and-alike false s′ r r′ e f = rw (← e)
 
-every-cong : (n : ℕ) (p q : ℕ → Bool) → ((j : ℕ) → j < n → p j ≡ q j) → every n p ≡ every n q
-unfolding every
-every-cong zero p q e = refl
-every-cong (suc n) p q e = λ t. every-cong n p q (λ j l. e j (omega arith)) t && e n (omega arith) t
-
 every-at : (n : ℕ) (p : ℕ → Bool) → every n p ≡ true → (j : ℕ) → j < n → p j ≡ true
 unfolding every
 every-at zero p e j l = absurd (omega arith)
@@ -48,11 +43,6 @@ every-at (suc n) p e j l = elim (decide j n) [
   | inl z ↦ rw z (true-right (every n p) (p n) e)
   | inr z ↦ every-at n p (true-left (every n p) (p n) e) j (omega arith)
 ]
-
-joined-cong : {A : Type 0} (n : ℕ) (f g : ℕ → List A) → ((j : ℕ) → j < n → f j ≡ g j) → joined n f ≡ joined n g
-unfolding joined
-joined-cong zero f g e = refl
-joined-cong (suc n) f g e = λ t. joined-cong n f g (λ j l. e j (omega arith)) t ++ e n (omega arith) t
 
 -- what is picked is one of the numbers looked at, or 0 where there are too few
 picked : (P : ℕ → Type 0) (p : ℕ → Bool) → P 0 → (c n : ℕ) → ((x : ℕ) → c ≤ x → x < c + n → p x ≡ true → P x) → (i : ℕ) → P (getD (pickFrom c n p) i 0)

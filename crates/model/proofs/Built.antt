@@ -1,22 +1,20 @@
 -- A fresh tree: what its pages read as once a board holds them.
 use mathlib.Core.Path.{_≡_, refl, sym, ap, _∙_, subst}
-use mathlib.Core.Logic.{_≢_, inl, inr}
+use mathlib.Core.Logic.{inl, inr}
 use mathlib.Core.List.{List, [], _∷_, _++_}
 use Prim.Native.Nat.{ℕ, zero, suc, _+_, _-_, _*_, _/_, _%_, _≤_, _<_}
 use native.Mathlib.Omega.{arith}
 use native.Mathlib.Nat.{zero-add, add-zero, mul-div-cancel-left, mul-mod-right, zero-mod}
-use lib.ListN.{length, length-append, set}
-use Rattle.model.specs.Lists.{tabulate, joined, sum}
+use lib.ListN.{length, length-append}
+use Rattle.model.specs.Lists.{joined, sum}
 use Rattle.model.specs.Words.{byteOf}
-use Rattle.model.specs.Tree.{seen, span, aligned, cell, link}
-use Rattle.model.specs.Store.{Store, store, performed}
-use Rattle.model.specs.Fresh.{Page, splice, part, partLength, need, needBefore, dataPage, stored, freshPointer, pointerPage, build}
+use Rattle.model.specs.Tree.{seen, span, cell, link}
+use Rattle.model.specs.Fresh.{Page, splice, part, partLength, need, needBefore, dataPage, freshPointer, pointerPage, build}
 use Rattle.model.proofs.Cases.{split, decide, length-joined}
 use Rattle.model.proofs.Sums.{sum-cong, sum-mono, sum-split}
-use Rattle.model.proofs.Counting.{one, one-same, one-other}
+use Rattle.model.proofs.Counting.{one}
 use Rattle.model.proofs.Bytes.{byteOf-lt, byteOf-wordOf}
-use Rattle.model.proofs.Perform.{All, all-append, all-tabulate, performed-append, performed-tabulate, length-performed, address-block, pageStore, stored-blocks, stored-cell}
-use Rattle.model.proofs.Agree.{byteAt, agree, seen-live, seen-dead, seen-lt, link-cell, agree-child, beneath, occ-leaf, occ-beneath, sound-leaf, aligned-zero, aligned-full, cell-away}
+use Rattle.model.proofs.Agree.{byteAt, agree, seen-live, seen-dead, seen-lt, link-cell, agree-child, occ-leaf, occ-beneath, sound-leaf, aligned-zero, aligned-full}
 use Rattle.model.proofs.Splice.{Small, Cover, length-part, small-part, cover-child, splice-small, choose-zero, choose-pos}
 use Rattle.model.proofs.Changed.{Changed, weaken, kept, node}
 

@@ -62,6 +62,18 @@ some-at (suc m) p j l t = elim (decide m j) [
   | inr n ↦ or-left (some m p) (p m) (some-at m p j (omega arith) t)
 ]
 
+pub or-cases : (s t : Bool) → T (s || t) → T s ⊎ T t
+or-cases true t h = inl tt
+or-cases false t h = inr h
+
+pub some-of : (m : ℕ) (p : ℕ → Bool) → T (some m p) → (j : ℕ) × (j < m) × T (p j)
+unfolding some
+some-of zero p h = absurd h
+some-of (suc m) p h = elim (or-cases (some m p) (p m) h) [
+  | inl u ↦ let c = some-of m p u in (c .0, omega (arith, c .1), c .2)
+  | inr u ↦ (m, omega arith, u)
+]
+
 -- the same of a test's value
 pub true-left : (s t : Bool) → (s && t) ≡ true → s ≡ true
 true-left true t e = refl

@@ -13,7 +13,6 @@ use lib.Dec.{T, eqb→eq}
 use borrow.Author.Tests.{le-leb, lt-leb}
 use Rattle.model.specs.declared.WalkEnd.{WalkEnd}
 use Rattle.model.specs.declared.WalkEnd.the-variants.{Block, Hole}
-use Rattle.model.specs.Lists.{sum}
 use Rattle.model.specs.Words.{byteOf}
 use Rattle.model.specs.Tree.{ending, span, aligned, cell, link, walk, blocks, sound}
 use Rattle.model.specs.Fresh.{splice, part, build}
@@ -21,12 +20,12 @@ use Rattle.model.specs.InPlace.{atBlock}
 use Rattle.model.specs.Change.{splicedWord, Shadow, descend}
 use Rattle.model.proofs.Cases.{split, decide}
 use Rattle.model.proofs.Sums.{sum-at, sum-two, only, only-same, sum-only}
-use Rattle.model.proofs.Counting.{one, occ, one-same}
+use Rattle.model.proofs.Counting.{occ, one-same}
 use Rattle.model.proofs.Bytes.{byteOf-lt, byteOf-wordOf}
 use Rattle.model.proofs.Spans.{span-power, child}
 use Rattle.model.proofs.Trees.{childBlocks, walk-null}
 use Rattle.model.proofs.Perform.{address-block}
-use Rattle.model.proofs.Agree.{byteAt, seen-live, frame, beneath, occ-node, aligned-zero, sound-child, sound-root}
+use Rattle.model.proofs.Agree.{byteAt, seen-live, frame, beneath, aligned-zero, sound-child, sound-root, occ-children, occ-root, occ-child}
 use Rattle.model.proofs.Splice.{Small, length-part, splice-small, splice-part, splice-skip, part-whole, part-none}
 use Rattle.model.proofs.Changed.{Changed, weaken, kept, node}
 use Rattle.model.proofs.Built.{held, used, length-build, build-changed}
@@ -35,19 +34,6 @@ use Rattle.model.proofs.Shown.{place-in-block}
 -- the block of a word at A
 block-of : (W q t A : ℕ) → t < W → W * q + t ≡ A → A / W ≡ q
 block-of W q t A l e = ap (λ (x : ℕ). x / W) (sym e) ∙ address-block W q t l
-
--- ---- the blocks of a live pointer block's tree, by children
-
-module _ (W : ℕ) (pos : 0 < W) (b : List ℕ) (h k n : ℕ) (live : 0 < n) where
-  occ-children : (q : ℕ) → occ q (blocks W b (suc h) (suc k) n) ≡ one q (suc k) + sum W (λ i. occ q (childBlocks W b h (suc k) n i))
-  unfolding beneath link
-  occ-children q = occ-node W pos b h (suc k) n q (omega arith) live
-
-  occ-root : 0 < occ (suc k) (blocks W b (suc h) (suc k) n)
-  occ-root = omega (arith, occ-children (suc k), one-same (suc k))
-
-  occ-child : (q j : ℕ) → j < W → occ q (childBlocks W b h (suc k) n j) ≤ occ q (blocks W b (suc h) (suc k) n)
-  occ-child q j l = omega (arith, occ-children q, sum-at W (λ i. occ q (childBlocks W b h (suc k) n i)) j l)
 
 -- ---- one word replaced
 

@@ -1,10 +1,10 @@
 -- Pairs and epochs: a plan is the pairs of its epochs, and a call that plans lays them into the lent slice or is refused. Every rule about plans
 -- and cuts begins with these.
-use mathlib.Core.Path.{_≡_, refl, sym, ap, _∙_}
+use mathlib.Core.Path.{_≡_, refl, ap, _∙_}
 use mathlib.Core.Logic.{_≢_, _⊎_, inl, inr}
 use mathlib.Core.Bool.{Bool, false}
-use mathlib.Core.List.{List, [], _∷_, _++_, map, map-append}
-use Prim.Native.Nat.{ℕ, zero, suc, _+_, _-_, _*_, _/_, _^_, _≤_, _<_}
+use mathlib.Core.List.{List, [], _∷_, _++_}
+use Prim.Native.Nat.{ℕ, suc, _-_, _*_, _^_, _≤_, _<_}
 use native.Mathlib.Omega.{arith}
 use native.Mathlib.Nat.{zero-add}
 use lib.ListN.{length, getD, take, drop}
@@ -14,90 +14,15 @@ use borrow.Author.Tests.{ltb-false, ne-eqb}
 use Rattle.model.specs.declared.Fault.{Fault}
 use Rattle.model.specs.declared.Fault.the-variants.{PlanLength}
 use Rattle.model.specs.declared.Answer.the-variants.{Done, Refused}
-use Rattle.model.specs.Lists.{tabulate, consIf, all, distinct, concat}
+use Rattle.model.specs.Lists.{consIf, distinct, concat}
 use Rattle.model.specs.Answers.{Faults, answered, unlessRefused, counted}
 use Rattle.model.specs.Store.{Store, store, barrier, isBarrier, performed, opening, epochs, fenced, flat, paired, laid}
-use Rattle.model.specs.Fresh.{Page, stored}
 use Rattle.model.specs.Calls.{Planned, planned}
 use Rattle.model.specs.Cut.{Cut, chosen, planOf, standing}
 use Rattle.model.specs.Claims.{Shaped}
-use Rattle.model.proofs.Cases.{decide, either, and-both}
-use Rattle.model.proofs.Counting.{occ, one-other, occ-append, occ-tabulate, sum-once}
-use Rattle.model.proofs.Perform.{All, Plain, all-tabulate, address-block, pageStore, stored-blocks}
-
-module _ {A : Type 0} where
-  pub all-left : (P : A → Type 0) (xs ys : List A) → All P (xs ++ ys) → All P xs
-  unfolding All
-  all-left P [] ys h = tt
-  all-left P (x ∷ xs) ys h = (h .0, all-left P xs ys (h .1))
-
-  pub all-right : (P : A → Type 0) (xs ys : List A) → All P (xs ++ ys) → All P ys
-  unfolding All
-  all-right P [] ys h = h
-  all-right P (x ∷ xs) ys h = all-right P xs ys (h .1)
-
-  -- P of each where Q is of each and gives P
-  pub all-map : (P Q : A → Type 0) → ((x : A) → Q x → P x) → (xs : List A) → All Q xs → All P xs
-  unfolding All
-  all-map P Q f [] h = tt
-  all-map P Q f (x ∷ xs) h = (f x (h .0), all-map P Q f xs (h .1))
-
-  -- as a test
-  pub all-holds : (p : A → Bool) (xs : List A) → All (λ x. T (p x)) xs → T (all p xs)
-  unfolding All all
-  all-holds p [] h = tt
-  all-holds p (x ∷ xs) h = and-both (p x) (all p xs) (h .0) (all-holds p xs (h .1))
-
--- ---- Addresses
-
-abbrev pub addresses : List Store → List ℕ
-addresses ss = map (λ s. s .at) ss
-
--- one that no store goes to is not among them
-pub addresses-away : (q : ℕ) (ss : List Store) → All (λ s. q ≢ s .at) ss → occ q (addresses ss) ≡ 0
-unfolding All occ
-addresses-away q [] h = refl
-addresses-away q (s ∷ ss) h = omega (arith, one-other q (s .at) (h .0), addresses-away q ss (h .1))
-
-pub addresses-append : (q : ℕ) (xs ys : List Store) → occ q (addresses (xs ++ ys)) ≡ occ q (addresses xs) + occ q (addresses ys)
-addresses-append q xs ys = rw (map-append (λ (s : Store). s .at) xs ys) (occ-append q (addresses xs) (addresses ys))
-
-addresses-tabulate : (m : ℕ) (s : ℕ → Store) → addresses (tabulate m s) ≡ tabulate m (λ j. s j .at)
-unfolding tabulate
-addresses-tabulate zero s = refl
-addresses-tabulate (suc m) s = rw (map-append (λ (x : Store). x .at) (tabulate m s) (s m ∷ []), addresses-tabulate m s)
-
--- of a loop whose addresses differ, each is there once
-pub tabulate-once : (q m : ℕ) (s : ℕ → Store) → ((i j : ℕ) → i < j → j < m → s i .at ≢ s j .at) → occ q (addresses (tabulate m s)) ≤ 1
-tabulate-once q m s d = rw (addresses-tabulate m s, occ-tabulate q m (λ j. s j .at)) (sum-once q m (λ j. s j .at) d)
-
--- an address in another block than k
-pub block-away : (W k j q : ℕ) → j < W → q / W ≢ k → q ≢ W * k + j
-block-away W k j q l d e = d (ap (λ (x : ℕ). x / W) e ∙ address-block W k j l)
-
-module _ (W : ℕ) (fresh : ℕ → ℕ) where
-  -- no address of pages in different blocks is there twice
-  pub stored-once : (ps : List Page) (c : ℕ) → ((i j : ℕ) → c ≤ i → i < j → j < c + length ps → fresh i ≢ fresh j) → (q : ℕ) → occ q (addresses (stored W fresh ps c)) ≤ 1
-  unfolding stored occ store
-  stored-once [] c d q = omega arith
-  stored-once (p ∷ ps) c d q =
-      let s : ℕ → Store = pageStore W (fresh c) p in
-      let rest : List Store = stored W fresh ps (suc c) in
-      elim (decide (q / W) (fresh c)) [
-        | inl e ↦ omega (
-          arith,
-          addresses-append q (tabulate W s) rest,
-          tabulate-once q W s (λ i j u v. omega arith),
-          addresses-away q rest (stored-blocks W fresh (λ x. q ≢ x) ps (suc c)
-              (λ i j u v l. block-away W (fresh i) j q l (λ z. d c i (omega arith) (omega arith) (omega arith) (sym e ∙ z)))),
-        )
-        | inr n ↦ omega (
-          arith,
-          addresses-append q (tabulate W s) rest,
-          addresses-away q (tabulate W s) (all-tabulate (λ x. q ≢ x .at) W s (λ j l. block-away W (fresh c) j q l n)),
-          stored-once ps (suc c) (λ i j u v w. d i j (omega arith) v (omega arith)) q,
-        )
-      ]
+use Rattle.model.proofs.Cases.{either}
+use Rattle.model.proofs.Addresses.{addresses, all-left, all-right, all-map, all-holds}
+use Rattle.model.proofs.Perform.{All, Plain}
 
 -- ---- Epochs
 
@@ -134,7 +59,7 @@ epochs-fenced (e ∷ d ∷ es) f p = epochs-first e (fenced (d ∷ es)) (p .0) �
 pub shaped : (es : List (List Store)) → All Full es → All Plain es → All (λ e. T (distinct (addresses e))) es → Shaped (fenced es)
 shaped es f p o = record {
   fences = rw (epochs-fenced es f p);
-  full = rw (epochs-fenced es f p) (all-holds (λ e. ltb 0 (length e)) es (all-map (λ e. T (ltb 0 (length e))) Full (λ e l. lt→ltb 0 (length e) l) es f));
+  full = rw (epochs-fenced es f p) (all-holds (λ e. ltb 0 (length e)) es (all-map Full (λ e. T (ltb 0 (length e))) (λ e l. lt→ltb 0 (length e) l) es f));
   once = rw (epochs-fenced es f p) (all-holds (λ e. distinct (addresses e)) es o);
 }
 

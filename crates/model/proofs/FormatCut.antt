@@ -24,9 +24,10 @@ use Rattle.model.specs.Calls.{wordCountFault, boardFaults, checkAnswer, 
 use Rattle.model.specs.Cut.{chosen}
 use Rattle.model.specs.Claims.{Shaped, FormatPlanRule, FormatRule, Empty}
 use Rattle.model.proofs.Cases.{decide, either, is-true}
-use Rattle.model.proofs.Counting.{occ, occ-distinct}
-use Rattle.model.proofs.Perform.{All, all-append, all-tabulate, length-performed, performed-append, performed-away, blocks-differ, stored-blocks}
-use Rattle.model.proofs.Epochs.{addresses, addresses-away, addresses-append, tabulate-once, block-away, stored-once, all-holds, Full, epochs-fenced, shaped, shaped-none, planned-either, all-chosen, standing-epochs, standing-none}
+use Rattle.model.proofs.Counting.{occ, occ-distinct, sum-once}
+use Rattle.model.proofs.Perform.{All, all-append, all-tabulate, length-performed, performed-append, performed-away, blocks-differ, stored-blocks, block-away}
+use Rattle.model.proofs.Addresses.{addresses, addresses-away, occ-addresses-append, occ-addresses-tabulate, used-once, stored-once, all-holds}
+use Rattle.model.proofs.Epochs.{Full, epochs-fenced, shaped, shaped-none, planned-either, all-chosen, standing-epochs, standing-none}
 use Rattle.model.proofs.Formatted.{Counted, counted, count-same, clears, trailerStore, commits, pages, filling, formatEpochs, length-pages, filling-some, format-epochs, filling-goes, trailer-on, format-plain, format-stores, format-empties}
 
 module _ (g : Layout) (fit : Fits g) (b : List ℕ) (ok : T (wordCountSound g b)) where
@@ -55,15 +56,17 @@ module _ (g : Layout) (fit : Fits g) (b : List ℕ) (ok : T (wordCountSound g b)
   filling-occ q = elim (decide (q / g .words) (blockCount g b - 1)) [
     | inl e ↦ omega (
       arith,
-      addresses-append q (pages g) (trailerStores g b),
+      occ-addresses-append q (pages g) (trailerStores g b),
       addresses-away q (pages g) (pages-away q e),
-      tabulate-once q (g .words - 1) (trailerStore g b) (λ i j u v. omega arith),
+      occ-addresses-tabulate q (g .words - 1) (trailerStore g b),
+      sum-once q (g .words - 1) (λ j. trailerStore g b j .at) (λ i j u v. omega arith),
     )
     | inr d ↦ omega (
       arith,
-      addresses-append q (pages g) (trailerStores g b),
+      occ-addresses-append q (pages g) (trailerStores g b),
       addresses-away q (trailerStores g b) (trailer-away q d),
-      stored-once (g .words) (λ c. c) (formatPages g) 1 (λ i j u v w. omega arith) q,
+      stored-once (g .words) (λ c. c) (formatPages g) 1 q,
+      used-once (λ c. c) (q / g .words) 1 (length (formatPages g)) (λ i j u v w. omega arith),
     )
   ]
 

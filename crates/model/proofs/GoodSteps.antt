@@ -2,15 +2,15 @@
 -- reading as wanted and the others as before.
 use mathlib.Core.Path.{_≡_}
 use mathlib.Core.List.{List, [], _∷_}
-use Prim.Native.Nat.{ℕ, _+_, _*_, _/_, _%_, _≤_, _<_}
+use Prim.Native.Nat.{ℕ, _/_, _≤_, _<_}
 use native.Mathlib.Omega.{arith}
 use lib.ListN.{length}
 use lib.Dec.{T}
-use Rattle.model.specs.Layout.{Layout, Fits, files}
+use Rattle.model.specs.Layout.{Layout, Fits}
 use Rattle.model.specs.Board.{contents, accepted}
-use Rattle.model.specs.Store.{Store, store, performed}
+use Rattle.model.specs.Store.{Store, performed}
 use Rattle.model.specs.Hidden.{hidden}
-use Rattle.model.specs.Plan.{Step, step}
+use Rattle.model.specs.Plan.{Step}
 use Rattle.model.proofs.Counting.{occ}
 use Rattle.model.proofs.Perform.{All}
 use Rattle.model.proofs.Addresses.{addresses, Stands, all-map, all-holds, performed-holds}

@@ -1,17 +1,15 @@
 -- Hidden stores: a board on which any of some stores are performed, each of them hidden, shows the same.
 use mathlib.Core.Path.{_≡_, refl, sym, ap, _∙_, subst}
 use mathlib.Core.Logic.{_≢_, _⊎_, inl, inr}
-use mathlib.Core.Bool.{Bool, true, false, not, _&&_, _||_}
+use mathlib.Core.Bool.{Bool, not, _&&_}
 use mathlib.Core.List.{List, [], _∷_}
 use Prim.Native.Nat.{ℕ, zero, suc, _+_, _-_, _*_, _/_, _%_, _≤_, _<_}
 use native.Mathlib.Omega.{arith}
-use native.Mathlib.Nat.{mul-comm}
 use lib.ListN.{length, getD, set, length-set}
 use lib.Seq.{getD-set-same, getD-set-other, set-out}
-use lib.Arith.{digits-mod}
 use lib.Dec.{T, leb, eqb, leb→le, eqb→eq}
 use lib.Ieee.Bits.{is-true}
-use Rattle.model.specs.Lists.{some, all, sum, consIf, member}
+use Rattle.model.specs.Lists.{some, all, member}
 use Rattle.model.specs.Words.{byteOf}
 use Rattle.model.specs.Layout.{Layout, Fits, files}
 use Rattle.model.specs.Tree.{live, span, cell, link, blocks}
@@ -20,31 +18,20 @@ use Rattle.model.specs.Store.{Store, performed}
 use Rattle.model.specs.Hidden.{keepsBytes, hiddenUnder, hiddenInFile, hidden}
 use Rattle.model.specs.Cut.{chosen}
 use Rattle.model.specs.Claims.{HiddenRule}
-use Rattle.model.proofs.Cases.{split, decide, and-left, and-right, every-of}
+use Rattle.model.proofs.Cases.{split, decide, and-left, and-right, every-of, or-cases, some-of}
 use Rattle.model.proofs.Sums.{sum-at, sum-two}
 use Rattle.model.proofs.Counting.{one, occ, one-same}
 use Rattle.model.proofs.Trees.{childBlocks}
-use Rattle.model.proofs.Perform.{All, address-block}
-use Rattle.model.proofs.Agree.{agree, agree-away, cell-away, beneath, occ-node}
+use Rattle.model.proofs.Perform.{All, address-block, address-place}
+use Rattle.model.proofs.Agree.{agree, agree-away, cell-away, occ-children, occ-child}
 use Rattle.model.proofs.Shown.{Same, words-pos, occ-live, file-live, leaf-of, same-shows}
 use Rattle.model.proofs.Accepting.{Ranged, Facts, facts}
 use Rattle.model.proofs.Census.{FreeBlock, member-free}
 use Rattle.model.proofs.Visible.{Visible, trailer-word, pointer-word, size-word, root-word, TreeSame, Unseen, directory, occ-directory, leaf-directory, root-block, size-block, visible-block, frame-same, store-same, unseen-same}
 use Rattle.model.proofs.Ranges.{file-range, root-once}
+use Rattle.model.proofs.Epochs.{all-chosen}
 
 -- ---- tests
-
-or-cases : (s t : Bool) → T (s || t) → T s ⊎ T t
-or-cases true t h = inl tt
-or-cases false t h = inr h
-
-some-of : (m : ℕ) (p : ℕ → Bool) → T (some m p) → (j : ℕ) × (j < m) × T (p j)
-unfolding some
-some-of zero p h = absurd h
-some-of (suc m) p h = elim (or-cases (some m p) (p m) h) [
-  | inl u ↦ let c = some-of m p u in (c .0, omega (arith, c .1), c .2)
-  | inr u ↦ (m, omega arith, u)
-]
 
 dead-zero : (n : ℕ) → T (not (live n)) → n ≡ 0
 unfolding live
@@ -58,19 +45,7 @@ kept-byte n j x w i l v t = elim (or-cases (leb n (8 * j + i)) (eqb (byteOf w i)
   | inr same ↦ eqb→eq (byteOf w i) (byteOf x i) same
 ]
 
--- a word's place in its block, from its address
-address-place : (W k j : ℕ) → j < W → (W * k + j) % W ≡ j
-address-place W k j l = rw (mul-comm W k) (digits-mod k l)
-
 -- ---- trees
-
-module _ (W : ℕ) (pos : 0 < W) (b : List ℕ) where
-  occ-children : (h k n x : ℕ) → occ x (blocks W b (suc h) (suc k) (suc n)) ≡ one x (suc k) + sum W (λ j. occ x (childBlocks W b h (suc k) (suc n) j))
-  unfolding beneath link
-  occ-children h k n x = occ-node W pos b h (suc k) (suc n) x (omega arith) (omega arith)
-
-  occ-child : (h k n x j : ℕ) → j < W → one x (suc k) + occ x (childBlocks W b h (suc k) (suc n) j) ≤ occ x (blocks W b (suc h) (suc k) (suc n))
-  occ-child h k n x j l = omega (arith, occ-children h k n x, sum-at W (λ i. occ x (childBlocks W b h (suc k) (suc n) i)) j l)
 
 module _ (W : ℕ) (pos : 0 < W) (b : List ℕ) (s : Store) where
   -- the store at a live pointer block: at one of its pointers, which is not live, or further down
@@ -99,8 +74,8 @@ module _ (W : ℕ) (pos : 0 < W) (b : List ℕ) (s : Store) where
   hidden-under-inside (suc h) zero n t = absurd t
   hidden-under-inside (suc h) (suc k) zero t = absurd t
   hidden-under-inside (suc h) (suc k) (suc n) t = elim (hidden-cases h k n t) [
-    | inl here ↦ omega (arith, occ-children W pos b h k n (s .at / W), ap (one (s .at / W)) (here .0), one-same (s .at / W))
-    | inr c ↦ omega (arith, occ-child W pos b h k n (s .at / W) (c .0) (c .1), hidden-under-inside h (cell W b (suc k) (c .0) / W) (suc n - c .0 * span W h) (c .2))
+    | inl here ↦ omega (arith, occ-children W pos b h k (suc n) (omega arith) (s .at / W), ap (one (s .at / W)) (here .0), one-same (s .at / W))
+    | inr c ↦ omega (arith, occ-child W pos b h k (suc n) (omega arith) (s .at / W) (c .0) (c .1), hidden-under-inside h (cell W b (suc k) (c .0) / W) (suc n - c .0 * span W h) (c .2))
   ]
 
   -- a byte of a data block, below the size
@@ -124,7 +99,7 @@ module _ (W : ℕ) (pos : 0 < W) (b : List ℕ) (s : Store) where
   own-dark h k n once e dead = λ j l v. (
     sym (getD-set-other b (s .at) (W * suc k + j) (s .value) 0 (λ x. omega (arith, dead, v, ap (λ (y : ℕ). y * span W h) (sym (address-place W (suc k) j l) ∙ ap (λ (y : ℕ). y % W) x)))),
     agree-away W pos b (s .at) (s .value) h (cell W b (suc k) j / W) (suc n - j * span W h)
-        (omega (arith, once (s .at / W), occ-child W pos b h k n (s .at / W) j l, ap (one (s .at / W)) e, one-same (s .at / W))),
+        (omega (arith, once (s .at / W), occ-child W pos b h k (suc n) (omega arith) (s .at / W) j l, ap (one (s .at / W)) e, one-same (s .at / W))),
   )
 
   -- and alters nothing that is visible of it
@@ -142,27 +117,18 @@ module _ (W : ℕ) (pos : 0 < W) (b : List ℕ) (s : Store) where
         let m : ℕ = suc n - c .0 * span W h in
         let inside : 0 < occ (s .at / W) (childBlocks W b h (suc k) (suc n) (c .0)) = hidden-under-inside h (cell W b (suc k) (c .0) / W) m (c .2) in
         let dark : agree W b (set b (s .at) (s .value)) h (cell W b (suc k) (c .0) / W) m =
-        hidden-under-dark h (cell W b (suc k) (c .0) / W) m (λ x. omega (arith, once x, occ-child W pos b h k n x (c .0) (c .1))) (c .2) in
+        hidden-under-dark h (cell W b (suc k) (c .0) / W) m (λ x. omega (arith, once x, occ-child W pos b h k (suc n) (omega arith) x (c .0) (c .1))) (c .2) in
         λ j l v. (
-          sym (cell-away W pos b (s .at) (s .value) (suc k) j l (λ e. omega (arith, once (s .at / W), occ-child W pos b h k n (s .at / W) (c .0) (c .1), inside, ap (one (s .at / W)) e, one-same (s .at / W)))),
+          sym (cell-away W pos b (s .at) (s .value) (suc k) j l (λ e. omega (arith, once (s .at / W), occ-child W pos b h k (suc n) (omega arith) (s .at / W) (c .0) (c .1), inside, ap (one (s .at / W)) e, one-same (s .at / W)))),
           elim (decide j (c .0)) [
             | inl e ↦ subst (λ (i : ℕ). agree W b (set b (s .at) (s .value)) h (cell W b (suc k) i / W) (suc n - i * span W h)) (sym e) dark
             | inr d ↦ agree-away W pos b (s .at) (s .value) h (cell W b (suc k) j / W) (suc n - j * span W h)
-                (omega (arith, once (s .at / W), occ-children W pos b h k n (s .at / W), inside, sum-two W (λ i. occ (s .at / W) (childBlocks W b h (suc k) (suc n) i)) j (c .0) l (c .1) d))
+                (omega (arith, once (s .at / W), occ-children W pos b h k (suc n) (omega arith) (s .at / W), inside, sum-two W (λ i. occ (s .at / W) (childBlocks W b h (suc k) (suc n) i)) j (c .0) l (c .1) d))
           ],
         )
   ]
 
 -- ---- boards
-
-all-chosen : (P : Store → Type 0) (arrived : ℕ → Bool) (ss : List Store) → All P ss → All P (chosen arrived ss)
-unfolding chosen All consIf
-all-chosen P arrived [] a = tt
-all-chosen P arrived (s ∷ ss) a = with-first (arrived 0) (all-chosen P (λ i. arrived (suc i)) ss (a .1))
-  where
-    with-first : (t : Bool) → All P (chosen (λ i. arrived (suc i)) ss) → All P (consIf t s (chosen (λ i. arrived (suc i)) ss))
-    with-first true rest = (a .0, rest)
-    with-first false rest = rest
 
 -- where a hidden store goes: to a free block, the root of an empty file, or a file's tree
 data Spot (g : Layout) (b : List ℕ) (s : Store) : Type 0 where

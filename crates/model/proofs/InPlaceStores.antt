@@ -1,29 +1,27 @@
 -- The stores to existing words when bytes are written at the end of a tree (specs/InPlace.antt): each is hidden, they go to live blocks of the tree, and
 -- where no block is reached twice no address is there twice. All three follow from where the stores go and what bytes they keep; none asks
 -- what `hook` stores, and a null pointer on the way is allowed.
-use mathlib.Core.Path.{_≡_, sym, subst, _∙_}
+use mathlib.Core.Path.{_≡_, _∙_}
 use mathlib.Core.Logic.{inl, inr}
-use mathlib.Core.Bool.{Bool, true, false, not, _&&_, _||_}
+use mathlib.Core.Bool.{Bool, not, _&&_}
 use mathlib.Core.List.{List, [], _∷_}
 use Prim.Native.Nat.{ℕ, zero, suc, _+_, _-_, _*_, _/_, _%_, _≤_, _<_}
 use native.Mathlib.Omega.{arith}
-use native.Mathlib.Nat.{mul-comm}
 use lib.ListN.{length}
-use lib.Arith.{digits-mod}
 use lib.Dec.{T, leb, eqb, le→leb, eqb-refl}
-use Rattle.model.specs.Lists.{some, choose}
+use Rattle.model.specs.Lists.{choose}
 use Rattle.model.specs.Words.{byteOf}
 use Rattle.model.specs.Tree.{live, seen, span, cell, link, blocks}
 use Rattle.model.specs.Store.{Store, store}
 use Rattle.model.specs.Hidden.{keepsBytes, hiddenUnder}
 use Rattle.model.specs.Fresh.{splice, part, partLength, dataPage}
 use Rattle.model.specs.InPlace.{tailBefore, tailWords, hooked, inPlace}
-use Rattle.model.proofs.Cases.{split, decide, and-both, every-all, or-left, or-right, some-at}
+use Rattle.model.proofs.Cases.{split, and-both, every-all, or-left, or-right, some-at}
 use Rattle.model.proofs.Sums.{sum-le, sum-add}
 use Rattle.model.proofs.Counting.{one, occ, occ-joined}
 use Rattle.model.proofs.Bytes.{byteOf-lt, byteOf-wordOf}
 use Rattle.model.proofs.Trees.{childBlocks}
-use Rattle.model.proofs.Perform.{All, address-block}
+use Rattle.model.proofs.Perform.{All, address-block, address-place}
 use Rattle.model.proofs.Agree.{seen-live, seen-lt}
 use Rattle.model.proofs.Splice.{Small, small-part, splice-left, splice-small}
 use Rattle.model.proofs.Addresses.{addresses, all-joined, all-map, occ-addresses-joined, addresses-counted, block-once}
@@ -32,10 +30,6 @@ not-live : (n : ℕ) → n ≤ 0 → T (not (live n))
 unfolding live
 not-live zero d = tt
 not-live (suc n) d = absurd (omega arith)
-
--- a word's place in its block, from its address
-address-word : (W k j : ℕ) → j < W → (W * k + j) % W ≡ j
-address-word W k j l = rw (mul-comm W k) (digits-mod k l)
 
 all-choose : {A : Type 0} (P : A → Type 0) (n : ℕ) (x : A) → P x → All P (choose n [] (x ∷ []))
 unfolding All choose
@@ -73,7 +67,7 @@ module _ (W : ℕ) (b : List ℕ) where
 
   data-hidden : (k n : ℕ) (new : List ℕ) (j : ℕ) → j < W → Small new → Hides zero (suc k) (suc n) (store (W * suc k + j) (dataPage W b (suc k) (suc n) (suc n) new j))
   unfolding hiddenUnder store link cell
-  data-hidden k n new j l small = rw (address-block W (suc k) j l, address-word W (suc k) j l)
+  data-hidden k n new j l small = rw (address-block W (suc k) j l, address-place W (suc k) j l)
       (and-both (eqb (suc k) (suc k)) (keepsBytes (suc n) j (link W b (suc k) j) (dataPage W b (suc k) (suc n) (suc n) new j)) (eqb-refl (suc k)) (data-keeps (suc k) (suc n) new j small))
 
   tail-words-hidden : (k n : ℕ) (new : List ℕ) → Small new → All (Hides zero (suc k) (suc n)) (tailWords W b (suc k) (suc n) new)
@@ -99,7 +93,7 @@ module _ (W : ℕ) (b : List ℕ) where
   pointer-hidden h k n j v l dead =
       let here : Bool = eqb (suc k) (suc k) in
       let out : Bool = not (live (suc n - j * span W h)) in
-      rw (address-block W (suc k) j l, address-word W (suc k) j l) (or-left (here && out) _ (and-both here out (eqb-refl (suc k)) (not-live (suc n - j * span W h) dead)))
+      rw (address-block W (suc k) j l, address-place W (suc k) j l) (or-left (here && out) _ (and-both here out (eqb-refl (suc k)) (not-live (suc n - j * span W h) dead)))
 
   child-hidden : (s : Store) (h k n j : ℕ) → j < W → Hides h (cell W b (suc k) j / W) (suc n - j * span W h) s → Hides (suc h) (suc k) (suc n) s
   unfolding hiddenUnder

@@ -1,35 +1,32 @@
 -- The ways of planning that change a file in one word of its tree: single word, and shadow inside the file.
 use mathlib.Core.Path.{_≡_, refl, sym, ap, _∙_}
 use mathlib.Core.Logic.{_≢_, _⊎_, inl, inr}
-use mathlib.Core.Bool.{true}
-use mathlib.Core.List.{List, [], _∷_}
-use Prim.Native.Nat.{ℕ, zero, suc, _+_, _-_, _*_, _/_, _%_, _≤_, _<_, max}
+use mathlib.Core.List.{List, []}
+use Prim.Native.Nat.{ℕ, _+_, _-_, _*_, _/_, _%_, _≤_, _<_}
 use native.Mathlib.Omega.{arith}
 use native.Mathlib.Nat.{add-zero, mod-lt, mod-eq-of-lt, mul-add-mod-self-left}
 use lib.ListN.{length, getD, set, length-set}
 use lib.Seq.{getD-set-same, getD-set-other}
 use lib.Dec.{T}
-use borrow.Author.Tests.{lt-ltb, le-ltb}
-use Rattle.model.specs.declared.WalkEnd.the-variants.{Block, Hole}
+use borrow.Author.Tests.{lt-ltb}
+use Rattle.model.specs.declared.WalkEnd.the-variants.{Block}
 use Rattle.model.specs.Layout.{Layout, Fits, files}
-use Rattle.model.specs.Tree.{span, cell, walk, blocks}
-use Rattle.model.specs.Board.{rootWalk, rootBlocks, greatest, blockCount, leaf, rootAddress, sizeAddress, root, size, walkTo, contents, fileBlocks, liveBlocks, accepted}
+use Rattle.model.specs.Tree.{span, cell, walk}
+use Rattle.model.specs.Board.{rootWalk, rootBlocks, blockCount, rootAddress, sizeAddress, root, size, walkTo, fileBlocks, accepted}
 use Rattle.model.specs.Store.{Store, store, performed}
 use Rattle.model.specs.Hidden.{hidden}
 use Rattle.model.specs.Fresh.{splice, stored}
-use Rattle.model.specs.Plan.{Step, step}
+use Rattle.model.specs.Plan.{step}
 use Rattle.model.specs.Change.{splicedWord, Shadow, descend}
-use Rattle.model.proofs.Cases.{split, decide}
+use Rattle.model.proofs.Cases.{decide}
 use Rattle.model.proofs.Counting.{occ}
 use Rattle.model.proofs.Perform.{All, address-block}
 use Rattle.model.proofs.Addresses.{addresses, stands-set, held-of-all}
-use Rattle.model.proofs.Spans.{span-pos}
 use Rattle.model.proofs.Splice.{Small, splice-right}
-use Rattle.model.proofs.Changed.{Changed}
 use Rattle.model.proofs.Built.{held, used}
 use Rattle.model.proofs.Shown.{Same, words-pos, leaf-of, file-live, same-address}
 use Rattle.model.proofs.Accepting.{Facts, facts, address-on-board}
-use Rattle.model.proofs.Commits.{FileCommit, Written, spliced, written-commit, Outcome}
+use Rattle.model.proofs.Commits.{Written, spliced, written-commit}
 use Rattle.model.proofs.Apart.{Spot, spot-ranged, spot-live, spot-root, spot-size, stored-root, leaf-not-file, tree-not-inode-of}
 use Rattle.model.proofs.Committing.{facts-same, spot-same, spot-commit}
 use Rattle.model.proofs.Supplied.{Supply, supply-once, stored-hidden, stored-apart, stored-not-live, stored-keeps}

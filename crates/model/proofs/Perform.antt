@@ -3,12 +3,12 @@ use mathlib.Core.Path.{_≡_, refl, sym, ap, ap₂, _∙_}
 use mathlib.Core.Logic.{_≢_, inl, inr}
 use mathlib.Core.Bool.{Bool, true, false, not}
 use mathlib.Core.List.{List, [], _∷_, _++_, append-nil}
-use Prim.Native.Nat.{ℕ, zero, suc, _+_, _-_, _*_, _/_, _^_, _≤_, _<_}
+use Prim.Native.Nat.{ℕ, zero, suc, _+_, _-_, _*_, _/_, _%_, _^_, _≤_, _<_}
 use native.Mathlib.Omega.{arith}
 use native.Mathlib.Nat.{add-zero, add-suc, suc-add, mul-comm, mul-suc, mul-zero, mul-le-mul-left}
 use lib.ListN.{length, getD, set, length-set, length-append}
 use lib.Seq.{getD-set-same, getD-set-other}
-use lib.Arith.{digits-div}
+use lib.Arith.{digits-div, digits-mod}
 use borrow.Author.Tests.{ne-eqb}
 use Rattle.model.specs.Lists.{tabulate, consIf, filter, concat}
 use Rattle.model.specs.Tree.{cell}
@@ -106,13 +106,21 @@ stores-fenced (e ∷ d ∷ es) p = stores-append e (barrier ∷ fenced (d ∷ es
 pub address-block : (W k j : ℕ) → j < W → (W * k + j) / W ≡ k
 address-block W k j l = rw (mul-comm W k) (digits-div k l)
 
+-- and its place there
+pub address-place : (W k j : ℕ) → j < W → (W * k + j) % W ≡ j
+address-place W k j l = rw (mul-comm W k) (digits-mod k l)
+
+-- an address in another block than k
+pub block-away : (W k j q : ℕ) → j < W → q / W ≢ k → q ≢ W * k + j
+block-away W k j q l d e = d (ap (λ (x : ℕ). x / W) e ∙ address-block W k j l)
+
 -- a block below B lies on a board of B blocks
 pub block-on : (W k B : ℕ) → k < B → W * k + W ≤ W * B
 block-on W k B l = omega (arith, mul-le-mul-left W l, mul-suc W k)
 
 -- words of different blocks have different addresses
 pub blocks-differ : (W k k′ j j′ : ℕ) → j < W → j′ < W → k ≢ k′ → W * k + j ≢ W * k′ + j′
-blocks-differ W k k′ j j′ l l′ d e = d (sym (address-block W k j l) ∙ ap (λ (x : ℕ). x / W) e ∙ address-block W k′ j′ l′)
+blocks-differ W k k′ j j′ l l′ d = block-away W k′ j′ (W * k + j) l′ (λ e. d (sym (address-block W k j l) ∙ e))
 
 -- word j of a page, stored to block k
 abbrev pub pageStore : ℕ → ℕ → Page → ℕ → Store

@@ -1,14 +1,14 @@
 -- Every plan of a length change and of a write is made of good steps.
 use mathlib.Core.Path.{_≡_, refl, sym, ap, _∙_, subst}
-use mathlib.Core.Logic.{_≢_, _⊎_, inl, inr}
-use mathlib.Core.Bool.{Bool, true, false, not, cond, _&&_, _||_, false≢true}
+use mathlib.Core.Logic.{inl, inr}
+use mathlib.Core.Bool.{Bool, true, false, not, cond, _||_, false≢true}
 use mathlib.Core.List.{List, [], _∷_, _++_, append-nil}
-use Prim.Native.Nat.{ℕ, zero, suc, _+_, _-_, _*_, _/_, _%_, _≤_, _<_, max}
+use Prim.Native.Nat.{ℕ, zero, suc, _+_, _-_, _/_, _%_, _≤_, _<_, max}
 use native.Mathlib.Omega.{arith}
 use native.Mathlib.Nat.{add-zero}
 use lib.ListN.{length, take, drop, replicate, take-append-drop}
 use lib.Seq.{take-all}
-use lib.Dec.{T, leb, ltb, eqb}
+use lib.Dec.{T, leb, eqb}
 use borrow.Author.Tests.{lt-ltb, le-ltb, le-leb, lt-leb, eq-eqb, ne-eqb, eqb-true}
 use Rattle.model.specs.declared.WalkEnd.{WalkEnd}
 use Rattle.model.specs.declared.WalkEnd.the-variants.{Block, Hole}
@@ -33,7 +33,7 @@ use Rattle.model.proofs.GoodSteps.{GoodStep, GoodSteps}
 use Rattle.model.proofs.Supplied.{Supply, supply-lowest}
 use Rattle.model.proofs.InsideWays.{single-good, inside-good}
 use Rattle.model.proofs.LeafWay.{leaf-good}
-use Rattle.model.proofs.GrowthWay.{growthPages, growthStep, growth-one-step, growth-performed, growth-grows, growth-empty, growth-spanned, growth-good, growth-size, growth-reaches, growth-supply}
+use Rattle.model.proofs.GrowthWay.{growthStep, growth-performed, growth-grows, growth-empty, growth-spanned, growth-good, growth-size, growth-reaches, growth-supply}
 use Rattle.model.proofs.SizeWays.{shorten-good, lengthen-empty-good, lengthen-good, tail-good, empty-tail-good}
 
 -- ---- What a file reads as, as a list

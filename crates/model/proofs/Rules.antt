@@ -4,7 +4,7 @@ use mathlib.Core.Logic.{_≢_, _⊎_, inl, inr}
 use mathlib.Core.List.{List, [], _∷_, _++_}
 use Prim.Native.Nat.{ℕ, zero, suc, _+_, _-_, _/_, _^_, _≤_, _<_}
 use native.Mathlib.Omega.{arith}
-use lib.ListN.{length, take, drop, replicate, length-set}
+use lib.ListN.{length, length-set}
 use lib.Dec.{T, leb, ltb, ltb→lt}
 use borrow.Author.Tests.{leb-false, ltb-false}
 use Rattle.model.specs.declared.Fault.{Fault}
@@ -30,7 +30,7 @@ use Rattle.model.proofs.Epochs.{Full, epochs-fenced, shaped, shaped-non
 use Rattle.model.proofs.Splice.{Small}
 use Rattle.model.proofs.Formatted.{count-same}
 use Rattle.model.proofs.Accepting.{Ranged, in-range, facts, address-on-board}
-use Rattle.model.proofs.HiddenStores.{hidden-in-range, hidden-rule}
+use Rattle.model.proofs.HiddenStores.{hidden-in-range}
 use Rattle.model.proofs.Safety.{none-safe}
 use Rattle.model.proofs.Steps.{committed, allCommitted, SafeSteps, one-step, performed-steps, steps-rule, steps-altered}
 use Rattle.model.proofs.Plans.{write-good, length-good}

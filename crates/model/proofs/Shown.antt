@@ -1,21 +1,21 @@
 -- Whole boards: what is visible of all files. Boards on which that is the same show the same.
 use mathlib.Core.Path.{_≡_, refl, sym, ap, ap₂, _∙_}
 use mathlib.Core.Logic.{inl, inr}
-use mathlib.Core.Bool.{Bool, not, _&&_}
+use mathlib.Core.Bool.{Bool, _&&_}
 use mathlib.Core.List.{List, _∷_, _++_}
 use Prim.Native.Nat.{ℕ, zero, suc, _+_, _-_, _*_, _/_, _%_, _^_, _≤_, _<_}
 use native.Mathlib.Omega.{arith}
-use native.Mathlib.Nat.{mod-lt, mod-eq-of-lt, zero-div, zero-mod, div-add-mod', div-lt-iff-lt-mul}
-use lib.ListN.{length, getD}
+use native.Mathlib.Nat.{mod-lt, mod-eq-of-lt, zero-div, div-add-mod', div-lt-iff-lt-mul}
+use lib.ListN.{length}
 use lib.Arith.{digits-mod, mod-mul}
-use lib.Dec.{T, leb, eqb}
+use lib.Dec.{leb, eqb}
 use borrow.Author.Tests.{lt-ltb, le-ltb}
 use Rattle.model.specs.declared.WalkEnd.the-variants.{Hole}
-use Rattle.model.specs.Lists.{tabulate, joined, every, sum, pickFrom, member, distinct}
+use Rattle.model.specs.Lists.{tabulate, joined, every, sum, distinct}
 use Rattle.model.specs.Words.{byteOf}
 use Rattle.model.specs.Layout.{Layout, Fits, files}
-use Rattle.model.specs.Tree.{seen, ending, span, cell, link, walk, shown, sound}
-use Rattle.model.specs.Board.{rootWalk, rootBlocks, rootSound, trailerWord, greatest, blockCount, trailer, inodeBlock, inodePointer, leaf, rootAddress, sizeAddress, root, size, walkTo, contents, fileBlocks, liveBlocks, free, inRange, wordCountSound, trailerSound, leafSound, fileSound, treesSound, accepted}
+use Rattle.model.specs.Tree.{ending, span, link, walk, shown}
+use Rattle.model.specs.Board.{rootWalk, rootBlocks, rootSound, trailerWord, greatest, blockCount, trailer, inodeBlock, inodePointer, leaf, rootAddress, root, size, walkTo, contents, fileBlocks, liveBlocks, free, inRange, wordCountSound, trailerSound, leafSound, fileSound, treesSound, accepted}
 use Rattle.model.specs.Calls.{wordCountFault, boardFaults, checkAnswer}
 use Rattle.model.specs.Claims.{Shows}
 use Rattle.model.proofs.Cases.{split, every-cong, tabulate-cong, joined-cong}
@@ -24,7 +24,7 @@ use Rattle.model.proofs.Counting.{one, occ, one-same, occ-append, occ-j
 use Rattle.model.proofs.Spans.{child, span-pos}
 use Rattle.model.proofs.Trees.{walk-dead}
 use Rattle.model.proofs.Walks.{block-pos, spanned-pos, span-blocks}
-use Rattle.model.proofs.Agree.{byteAt, spanByte, agree, seen-live, span-byte-in, span-byte-past, agree-blocks, agree-sound, agree-span-byte, blocks-none, frame}
+use Rattle.model.proofs.Agree.{byteAt, spanByte, agree, seen-live, span-byte-in, span-byte-past, agree-blocks, agree-sound, agree-span-byte, blocks-none}
 
 -- ---- what is seen of a byte is where the walk to it ends
 

@@ -1,39 +1,39 @@
 -- The ways of planning that commit with the file's size: a tail, and a length change.
 use mathlib.Core.Path.{_≡_, refl, sym, ap, _∙_}
-use mathlib.Core.Logic.{_≢_, _⊎_, inl, inr}
-use mathlib.Core.Bool.{Bool, true, _&&_, _||_}
+use mathlib.Core.Logic.{_≢_, inl, inr}
+use mathlib.Core.Bool.{_&&_}
 use mathlib.Core.List.{List, [], _∷_, _++_}
-use Prim.Native.Nat.{ℕ, zero, suc, _+_, _-_, _*_, _/_, _%_, _≤_, _<_}
+use Prim.Native.Nat.{ℕ, _+_, _-_, _/_, _%_, _≤_, _<_}
 use native.Mathlib.Omega.{arith}
-use native.Mathlib.Nat.{add-zero, mod-lt, mod-eq-of-lt, mul-add-mod-self-left, zero-div, zero-mod}
+use native.Mathlib.Nat.{mod-eq-of-lt, mul-add-mod-self-left, zero-div, zero-mod}
 use lib.ListN.{length, getD, set, length-set, replicate, length-replicate}
 use lib.Dec.{T, eqb}
 use borrow.Author.Tests.{eq-eqb}
 use Rattle.model.specs.Lists.{some, member}
 use Rattle.model.specs.Layout.{Layout, Fits, files}
 use Rattle.model.specs.Tree.{span, least, blocks, sound}
-use Rattle.model.specs.Board.{rootBlocks, greatest, blockCount, leaf, rootAddress, sizeAddress, root, size, contents, fileBlocks, liveBlocks, free, accepted}
+use Rattle.model.specs.Board.{rootBlocks, greatest, blockCount, leaf, rootAddress, sizeAddress, root, size, fileBlocks, liveBlocks, free, accepted}
 use Rattle.model.specs.Store.{Store, store, performed}
 use Rattle.model.specs.Hidden.{hiddenUnder, hiddenInFile, hidden}
-use Rattle.model.specs.Plan.{Step, step}
+use Rattle.model.specs.Plan.{step}
 use Rattle.model.specs.Fresh.{Page, splice, need, stored, freshPointer, build}
 use Rattle.model.specs.InPlace.{atBlock, walkLive, tailNeed, tailPages, inPlace}
-use Rattle.model.proofs.Cases.{split, decide, or-right, some-at}
+use Rattle.model.proofs.Cases.{decide, or-right, some-at}
 use Rattle.model.proofs.Counting.{one, occ, one-same, one-other}
 use Rattle.model.proofs.Perform.{All, all-append, address-block}
 use Rattle.model.proofs.Addresses.{addresses, addresses-away, Stands, all-map, all-left, all-right, occ-addresses-append, stored-once, held-of-all}
-use Rattle.model.proofs.Agree.{agree, agree-away, agree-refl, agree-none}
-use Rattle.model.proofs.Splice.{Small, Cover, splice-none, splice-right}
+use Rattle.model.proofs.Agree.{agree-away, agree-refl, agree-none}
+use Rattle.model.proofs.Splice.{Small, splice-none}
 use Rattle.model.proofs.Changed.{Changed, changed-to}
-use Rattle.model.proofs.Built.{held, used, length-build, build-changed}
+use Rattle.model.proofs.Built.{used, length-build, build-changed}
 use Rattle.model.proofs.InPlaceStores.{in-place-hidden, in-place-once}
-use Rattle.model.proofs.Tailed.{WrittenOn, zeros-replicate, splice-zeros, hole-changed, length-tail, tail-changed, length-changed}
+use Rattle.model.proofs.Tailed.{zeros-replicate, splice-zeros, hole-changed, length-tail, tail-changed, length-changed}
 use Rattle.model.proofs.Trees.{sound-null}
 use Rattle.model.proofs.Shrunk.{shrink-changed}
 use Rattle.model.proofs.Spans.{least-within, least-reaches}
 use Rattle.model.proofs.Shown.{Same, words-pos, leaf-of, leaf-live, file-live, same-address}
 use Rattle.model.proofs.Accepting.{Facts, facts}
-use Rattle.model.proofs.Commits.{FileCommit, Had, had-blocks, Written, spliced, written-commit, Outcome}
+use Rattle.model.proofs.Commits.{Had, had-blocks, Written, spliced, written-commit}
 use Rattle.model.proofs.Apart.{Spot, spot-ranged, spot-root, stored-size, leaf-not-file}
 use Rattle.model.proofs.Visible.{root-block, size-block}
 use Rattle.model.proofs.Committing.{facts-same, spot-same, spot-commit}

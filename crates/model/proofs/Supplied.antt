@@ -1,18 +1,16 @@
 -- Fresh blocks: what is asked of them, and that the board's free blocks meet it.
-use mathlib.Core.Path.{_≡_, refl, sym, ap, _∙_, subst}
+use mathlib.Core.Path.{_≡_, sym, ap, _∙_, subst}
 use mathlib.Core.Logic.{_≢_, inl, inr}
-use mathlib.Core.Bool.{Bool, true, _||_}
-use mathlib.Core.List.{List, [], _∷_}
-use Prim.Native.Nat.{ℕ, zero, suc, _+_, _-_, _*_, _/_, _≤_, _<_}
+use mathlib.Core.List.{List, []}
+use Prim.Native.Nat.{ℕ, _+_, _-_, _*_, _/_, _≤_, _<_}
 use native.Mathlib.Omega.{arith}
-use lib.ListN.{length, getD}
+use lib.ListN.{length}
 use lib.Dec.{T}
-use Rattle.model.specs.Lists.{sum, some, member}
-use Rattle.model.specs.Layout.{Layout, Fits, files}
+use Rattle.model.specs.Layout.{Layout, Fits}
 use Rattle.model.specs.Board.{blockCount, liveBlocks, free}
 use Rattle.model.specs.Tree.{cell}
-use Rattle.model.specs.Store.{Store, performed}
-use Rattle.model.specs.Hidden.{hiddenInFile, hidden}
+use Rattle.model.specs.Store.{performed}
+use Rattle.model.specs.Hidden.{hidden}
 use Rattle.model.specs.Fresh.{Page, stored}
 use Rattle.model.specs.Calls.{lowest}
 use Rattle.model.proofs.Cases.{split}
@@ -20,8 +18,7 @@ use Rattle.model.proofs.Counting.{occ}
 use Rattle.model.proofs.Perform.{All, performed-away, address-block, stored-blocks}
 use Rattle.model.proofs.Built.{used}
 use Rattle.model.proofs.Addresses.{all-map, addresses, used-none, used-once, stored-once}
-use Rattle.model.proofs.Formatted.{Counted}
-use Rattle.model.proofs.Shown.{Same, words-pos, same-count, same-live}
+use Rattle.model.proofs.Shown.{Same, same-count, same-live}
 use Rattle.model.proofs.Census.{FreeBlock, free-at, free-rises, free-member}
 
 -- the blocks fresh i with i < lim differ and lie in 1 to B − 2; those with c ≤ i are not live

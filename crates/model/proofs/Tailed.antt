@@ -12,7 +12,7 @@ use lib.Dec.{T}
 use Rattle.model.specs.declared.WalkEnd.the-variants.{Hole}
 use Rattle.model.specs.Lists.{sum, choose}
 use Rattle.model.specs.Tree.{ending, span, aligned, cell, link}
-use Rattle.model.specs.Store.{Store, store}
+use Rattle.model.specs.Store.{store}
 use Rattle.model.specs.Fresh.{Page, splice, part, partLength, need, dataPage, freshPointer, build}
 use Rattle.model.specs.InPlace.{atBlock, tailNeed, tailBefore, walkLive, tailPages, tailWords, hooked, inPlace}
 use Rattle.model.proofs.Cases.{split, length-joined}
