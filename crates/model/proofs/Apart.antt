@@ -3,23 +3,22 @@
 use mathlib.Core.Path.{_≡_, sym, ap, ap₂, _∙_, subst}
 use mathlib.Core.Logic.{_≢_, _⊎_, inl, inr}
 use mathlib.Core.List.{List}
-use Prim.Native.Nat.{ℕ, zero, suc, _+_, _-_, _*_, _/_, _%_, _≤_, _<_}
+use Prim.Native.Nat.{ℕ, _+_, _-_, _*_, _/_, _%_, _≤_, _<_}
 use native.Mathlib.Omega.{arith}
-use native.Mathlib.Nat.{add-zero, add-assoc, div-add-mod'}
+use native.Mathlib.Nat.{add-zero, div-add-mod'}
 use lib.ListN.{length, getD, set, length-set}
 use lib.Seq.{getD-set-same, getD-set-other}
-use lib.Dec.{T, ltb→lt}
 use Rattle.model.specs.Layout.{Layout, Fits, files}
-use Rattle.model.specs.Tree.{span, cell, link, blocks, sound}
+use Rattle.model.specs.Tree.{cell}
 use Rattle.model.specs.Board.{blockCount, trailer, inodeBlock, inodePointer, leaf, rootAddress, sizeAddress, root, size, rootBlocks, fileBlocks, liveBlocks}
 use Rattle.model.proofs.Cases.{decide}
-use Rattle.model.proofs.Sums.{sum-at, sum-two, sum-some}
-use Rattle.model.proofs.Counting.{one, occ, one-same, one-other}
-use Rattle.model.proofs.Perform.{address-block}
-use Rattle.model.proofs.Agree.{agree-away, cell-away, beneath, occ-above, sound-child, sound-root}
-use Rattle.model.proofs.Shown.{words-pos, occ-live, leaf-live, file-live, leaf-of, slot}
+use Rattle.model.proofs.Sums.{sum-at, sum-two}
+use Rattle.model.proofs.Counting.{one, occ, one-same}
+use Rattle.model.proofs.Agree.{agree-away, cell-away, agree}
+use Rattle.model.proofs.Shown.{words-pos, occ-live, leaf-live, file-live, leaf-of, count-kept, inode-block-of, root-block, size-block, Same}
 use Rattle.model.proofs.Accepting.{Facts, Ranged, address-on-board}
 use Rattle.model.proofs.Commits.{Others}
+use Rattle.model.proofs.Ranges.{file-range}
 
 -- ---- Blocks
 
@@ -55,34 +54,11 @@ module _ (g : Layout) (b : List ℕ) (once : (q : ℕ) → occ q (liveBlocks g b
   inode-not-file f v = let q : ℕ = inodeBlock g b in
       omega (arith, once q, occ-live g b q, one-same q, sum-at (files g) (λ i. occ q (fileBlocks g b i)) f v)
 
--- the live blocks of a sound tree lie below top, and none is 0
-pub tree-below : (W : ℕ) → 0 < W → (b : List ℕ) (top h k n q : ℕ) → T (sound W b top h k n) → 0 < occ q (blocks W b h k n) → (0 < q) × (q < top)
-unfolding sound blocks occ beneath
-tree-below W pos b top zero zero n q t f = absurd (omega arith)
-tree-below W pos b top zero (suc k) zero q t f = absurd (omega arith)
-tree-below W pos b top zero (suc k) (suc n) q t f = elim (decide q (suc k)) [
-  | inl e ↦ rw e (omega arith, ltb→lt (suc k) top t)
-  | inr e ↦ absurd (omega (arith, one-other q (suc k) e))
-]
-tree-below W pos b top (suc h) zero n q t f = absurd (omega arith)
-tree-below W pos b top (suc h) (suc k) zero q t f = absurd (omega arith)
-tree-below W pos b top (suc h) (suc k) (suc n) q t f = elim (decide q (suc k)) [
-  | inl e ↦ rw e (omega arith, sound-root W pos top b h (suc k) (suc n) (omega arith) (omega arith) t)
-  | inr e ↦
-      let s = sum-some W (λ j. occ q (blocks W b h (link W b (suc k) j / W) (suc n - j * span W h))) (omega (arith, one-other q (suc k) e, occ-above W pos b h (suc k) (suc n) q)) in
-      tree-below W pos b top h (link W b (suc k) (s .0) / W) (suc n - s .0 * span W h) q (sound-child W pos top b h (suc k) (suc n) t (s .0) (s .1) .1) (s .2)
-]
-
 -- ---- Addresses
 
 module _ (g : Layout) (fit : Fits g) (b : List ℕ) (ok : Facts g b) where
   pos : 0 < g .words
   pos = words-pos g fit
-
-  -- a file's inode lies in its leaf
-  pub inode-block-of : (f d : ℕ) → d ≤ 1 → (rootAddress g b f + d) / g .words ≡ leaf g b (f / g .inodes)
-  unfolding rootAddress
-  inode-block-of f d l = rw (add-assoc (g .words * leaf g b (f / g .inodes)) (2 * (f % g .inodes)) d) (address-block (g .words) (leaf g b (f / g .inodes)) (2 * (f % g .inodes) + d) (omega (arith, slot g fit f)))
 
   -- the inodes of two files are apart
   pub inodes-apart : (i f d e : ℕ) → i < files g → f < files g → i ≢ f → d ≤ 1 → e ≤ 1 → rootAddress g b i + d ≢ rootAddress g b f + e
@@ -92,7 +68,7 @@ module _ (g : Layout) (fit : Fits g) (b : List ℕ) (ok : Facts g b) where
         let place : i % g .inodes ≡ f % g .inodes = omega (arith, ap (λ (y : ℕ). g .words * leaf g b y) same) in
         ne (sym (div-add-mod' i (g .inodes)) ∙ ap₂ (λ (y z : ℕ). y * g .inodes + z) same place ∙ div-add-mod' f (g .inodes))
     | inr d′ ↦ leaves-apart g b (ok .once) (i / g .inodes) (f / g .inodes) (leaf-of g fit i u) (leaf-of g fit f v) d′
-        (sym (inode-block-of i d dl) ∙ ap (λ (y : ℕ). y / g .words) x ∙ inode-block-of f e el)
+        (sym (inode-block-of g fit b i d dl) ∙ ap (λ (y : ℕ). y / g .words) x ∙ inode-block-of g fit b f e el)
   ]
 
   module _ (f : ℕ) (f-lt : f < files g) where
@@ -101,16 +77,14 @@ module _ (g : Layout) (fit : Fits g) (b : List ℕ) (ok : Facts g b) where
     Spot a = ((a ≡ rootAddress g b f) ⊎ (a ≡ sizeAddress g b f)) ⊎ (0 < occ (a / g .words) (fileBlocks g b f))
 
     spot-block : (a : ℕ) → Spot a → (a / g .words ≡ leaf g b (f / g .inodes)) ⊎ (0 < occ (a / g .words) (fileBlocks g b f))
-    unfolding sizeAddress
-    spot-block a (inl (inl e)) = inl (ap (λ (x : ℕ). x / g .words) (e ∙ sym (add-zero (rootAddress g b f))) ∙ inode-block-of f 0 (omega arith))
-    spot-block a (inl (inr e)) = inl (ap (λ (x : ℕ). x / g .words) e ∙ inode-block-of f 1 (omega arith))
+    spot-block a (inl (inl e)) = inl (ap (λ (x : ℕ). x / g .words) e ∙ root-block g fit b f)
+    spot-block a (inl (inr e)) = inl (ap (λ (x : ℕ). x / g .words) e ∙ size-block g fit b f)
     spot-block a (inr t) = inr t
 
     pub spot-ranged : (a : ℕ) → Spot a → Ranged g b (a / g .words)
-    unfolding fileBlocks rootBlocks
     spot-ranged a s = elim (spot-block a s) [
       | inl e ↦ rw e (ok .leaf-in (f / g .inodes) (leaf-of g fit f f-lt))
-      | inr t ↦ tree-below (g .words) pos b (blockCount g b - 1) (root g b f % g .words) (root g b f / g .words) (size g b f) (a / g .words) (ok .tree f f-lt) t
+      | inr t ↦ file-range g fit b ok f (a / g .words) f-lt t
     ]
 
     pub spot-live : (a : ℕ) → Spot a → 0 < occ (a / g .words) (liveBlocks g b)
@@ -129,7 +103,7 @@ module _ (g : Layout) (fit : Fits g) (b : List ℕ) (ok : Facts g b) where
     -- an address in the tree is in no inode
     pub tree-not-inode-of : (a : ℕ) → 0 < occ (a / g .words) (fileBlocks g b f) → (i d : ℕ) → i < files g → d ≤ 1 → rootAddress g b i + d ≢ a
     tree-not-inode-of a t i d u l x =
-        file-not-leaf g b (ok .once) f (a / g .words) f-lt t (i / g .inodes) (leaf-of g fit i u) (ap (λ (y : ℕ). y / g .words) (sym x) ∙ inode-block-of i d l)
+        file-not-leaf g b (ok .once) f (a / g .words) f-lt t (i / g .inodes) (leaf-of g fit i u) (ap (λ (y : ℕ). y / g .words) (sym x) ∙ inode-block-of g fit b i d l)
 
     spot-not-inode-of : (a : ℕ) → Spot a → (i d : ℕ) → i < files g → i ≢ f → d ≤ 1 → rootAddress g b i + d ≢ a
     unfolding sizeAddress
@@ -149,16 +123,15 @@ module _ (g : Layout) (fit : Fits g) (b : List ℕ) (ok : Facts g b) where
       abbrev b₂ : List ℕ
       b₂ = set b a v
 
-      pub spot-count : blockCount g b ≡ blockCount g b₂
-      unfolding blockCount
-      spot-count = ap (λ (x : ℕ). x / g .words) (sym (length-set b a v))
+      len : length b ≡ length b₂
+      len = sym (length-set b a v)
 
       other-block : (q j : ℕ) → j < g .words → q ≢ a / g .words → cell (g .words) b q j ≡ cell (g .words) b₂ q j
       other-block q j l d = sym (cell-away (g .words) pos b a v q j l d)
 
       pub spot-trailer : (j : ℕ) → j < g .words → trailer g b j ≡ trailer g b₂ j
       unfolding trailer
-      spot-trailer j l = other-block (blockCount g b - 1) j l (λ x. omega (arith, spot-ranged a s .1)) ∙ ap (λ (x : ℕ). cell (g .words) b₂ (x - 1) j) spot-count
+      spot-trailer j l = other-block (blockCount g b - 1) j l (λ x. omega (arith, spot-ranged a s .1)) ∙ ap (λ (x : ℕ). cell (g .words) b₂ (x - 1) j) (count-kept g b b₂ len)
 
       pub spot-pointer : (l : ℕ) → l < g .leaves → inodePointer g b l ≡ inodePointer g b₂ l
       unfolding inodePointer inodeBlock
@@ -202,4 +175,15 @@ module _ (g : Layout) (fit : Fits g) (b : List ℕ) (ok : Facts g b) where
         sizes = λ i u d. spot-size i u (spot-not-inode-of a s i 1 u d (omega arith));
         roots = λ i u d z. spot-root i u (λ x. spot-not-inode-of a s i 0 u d (omega arith) (add-zero (rootAddress g b i) ∙ x));
         trees = λ i u d. agree-away (g .words) pos b a v (root g b i % g .words) (root g b i / g .words) (size g b i) (spot-not-file a s i u d);
+      }
+
+      -- if it is not seen in file f either, it is not seen at all
+      pub spot-unseen : a ≢ sizeAddress g b f → (0 < size g b f → a ≢ rootAddress g b f) → agree (g .words) b b₂ (root g b f % g .words) (root g b f / g .words) (size g b f) → Same g b b₂
+      spot-unseen not-size not-root tree = record {
+        lengths = len;
+        trailers = spot-trailer;
+        pointers = spot-pointer;
+        sizes = λ i u. elim (decide i f) [ inl e ↦ rw e (spot-size f f-lt (λ x. not-size (sym x))) | inr d ↦ spot-others .sizes i u d ];
+        roots = λ i u live. elim (decide i f) [ inl e ↦ rw e (spot-root f f-lt (λ x. not-root (rw e at live) (sym x))) | inr d ↦ spot-others .roots i u d live ];
+        trees = λ i u. elim (decide i f) [ inl e ↦ rw e tree | inr d ↦ spot-others .trees i u d ];
       }

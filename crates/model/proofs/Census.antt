@@ -3,22 +3,19 @@ use mathlib.Core.Path.{_≡_, refl, sym, ap, _∙_}
 use mathlib.Core.Logic.{_≢_, inl, inr}
 use mathlib.Core.Bool.{Bool, true, false, not, true≢false}
 use mathlib.Core.List.{List, [], _∷_}
-use Prim.Native.Nat.{ℕ, zero, suc, _+_, _-_, _*_, _/_, _%_, _≤_, _<_}
+use Prim.Native.Nat.{ℕ, zero, suc, _+_, _-_, _≤_, _<_}
 use native.Mathlib.Omega.{arith}
 use lib.ListN.{length, getD}
-use lib.Dec.{T, ltb}
-use borrow.Author.Tests.{ltb-true, eq-eqb, ne-eqb, not-true}
-use Rattle.model.specs.Lists.{sum, all, consIf, pickFrom, member}
-use Rattle.model.specs.Layout.{Layout, Fits, files}
-use Rattle.model.specs.Tree.{span, cell, blocks, sound}
-use Rattle.model.specs.Board.{rootBlocks, blockCount, inodeBlock, leaf, root, size, fileBlocks, liveBlocks, free, accepted}
-use Rattle.model.proofs.Cases.{split, decide, either, is-true, true-left, true-right}
-use Rattle.model.proofs.Sums.{sum-zero, sum-some}
-use Rattle.model.proofs.Counting.{one, occ, one-same, one-other, occ-joined, member-none, member-some}
-use Rattle.model.proofs.Trees.{childBlocks}
-use Rattle.model.proofs.Live.{below, sound-below}
-use Rattle.model.proofs.Shown.{occ-live}
-use Rattle.model.proofs.Accepting.{Ranged, Facts, facts}
+use lib.Dec.{T}
+use borrow.Author.Tests.{eq-eqb, ne-eqb, not-true}
+use Rattle.model.specs.Lists.{consIf, pickFrom, member}
+use Rattle.model.specs.Layout.{Layout, Fits}
+use Rattle.model.specs.Board.{blockCount, liveBlocks, free, accepted}
+use Rattle.model.proofs.Cases.{split, decide, either}
+use Rattle.model.proofs.Counting.{occ, one-same, member-none, member-some}
+use Rattle.model.proofs.Live.{below}
+use Rattle.model.proofs.Accepting.{Facts, facts}
+use Rattle.model.proofs.Ranges.{live-range}
 
 -- ---- Numbers picked from c on
 
@@ -144,61 +141,6 @@ module _ (g : Layout) (b : List ℕ) where
   unfolding free unmet
   free-member x k = picked-member unmet 1 (blockCount g b - 2) x (free-picked x k)
 
--- ---- Live blocks lie in 1 to B − 2
-
--- no tree has block 0
-blocks-above : (W : ℕ) (b : List ℕ) (h k n : ℕ) → occ 0 (blocks W b h k n) ≡ 0
-unfolding blocks occ
-blocks-above W b zero zero n = refl
-blocks-above W b zero (suc k) zero = refl
-blocks-above W b zero (suc k) (suc n) = omega (arith, one-other 0 (suc k) (omega arith))
-blocks-above W b (suc h) zero n = refl
-blocks-above W b (suc h) (suc k) zero = refl
-blocks-above W b (suc h) (suc k) (suc n) = omega (
-  arith,
-  one-other 0 (suc k) (omega arith),
-  occ-joined 0 W (childBlocks W b h (suc k) (suc n)),
-  sum-zero W (λ j. occ 0 (childBlocks W b h (suc k) (suc n) j)) (λ j l. blocks-above W b h (cell W b (suc k) j / W) (suc n - j * span W h)),
-)
-
--- what is counted is there
-one-is : (q x : ℕ) → 0 < one q x → q ≡ x
-one-is q x l = elim (decide q x) [ inl e ↦ e | inr d ↦ absurd (omega (arith, one-other q x d)) ]
-
-below-occ : (top q : ℕ) (l : List ℕ) → below top l ≡ true → 0 < occ q l → q < top
-unfolding all occ
-below-occ top q [] e o = absurd (omega arith)
-below-occ top q (x ∷ xs) e o = elim (decide q x) [
-  | inl s ↦ rw s (ltb-true x top (true-left (ltb x top) (below top xs) e))
-  | inr d ↦ below-occ top q xs (true-right (ltb x top) (below top xs) e) (omega (arith, one-other q x d))
-]
-
-module _ (g : Layout) (b : List ℕ) (a : Facts g b) where
-  file-range : (f q : ℕ) → f < files g → 0 < occ q (fileBlocks g b f) → Ranged g b q
-  unfolding fileBlocks rootBlocks
-  file-range f q l o =
-      let W : ℕ = g .words in
-      let h : ℕ = root g b f % W in
-      let k : ℕ = root g b f / W in
-      let top : ℕ = blockCount g b - 1 in
-      let s : sound W b top h k (size g b f) ≡ true = is-true (sound W b top h k (size g b f)) (a .tree f l) in (
-        elim (decide q 0) [ inl e ↦ absurd (omega (arith, blocks-above W b h k (size g b f), rw e at o)) | inr d ↦ omega arith ],
-        below-occ top q (blocks W b h k (size g b f)) (sound-below W b top h k (size g b f) s) o,
-      )
-
-  pub live-range : (q : ℕ) → 0 < occ q (liveBlocks g b) → Ranged g b q
-  live-range q o = elim (decide q (inodeBlock g b)) [
-    | inl e ↦ rw e (a .inode)
-    | inr d ↦ elim (split (sum (g .leaves) (λ l. one q (leaf g b l))) 0) [
-      | inl z ↦
-          let f = sum-some (files g) (λ f. occ q (fileBlocks g b f)) (omega (arith, one-other q (inodeBlock g b) d, occ-live g b q)) in
-          file-range (f .0) q (f .1) (f .2)
-      | inr s ↦
-          let l = sum-some (g .leaves) (λ l. one q (leaf g b l)) s in
-          rw (one-is q (leaf g b (l .0)) (l .2)) (a .leaf-in (l .0) (l .1))
-    ]
-  ]
-
 -- ---- How many there are
 
 pick-all : (p : ℕ → Bool) → ((k : ℕ) → p k ≡ true) → (c n : ℕ) → length (pickFrom c n p) ≡ n
@@ -244,6 +186,6 @@ census g fit b t =
     let a : Facts g b = facts g fit b t in
     omega (
       arith,
-      others-count 1 (blockCount g b - 2) (liveBlocks g b) (a .once) (λ q o. let r = live-range g b a q o in (r .0, omega (arith, r .0, r .1))),
+      others-count 1 (blockCount g b - 2) (liveBlocks g b) (a .once) (λ q o. let r = live-range g fit b a q o in (r .0, omega (arith, r .0, r .1))),
       a .sizes .blocks-least,
     )

@@ -18,7 +18,7 @@ use Rattle.model.proofs.Counting.{one, occ}
 use Rattle.model.proofs.Agree.{byteAt, agree, agree-none, agree-trans, seen-live, seen-dead, blocks-none, byteAt-past}
 use Rattle.model.proofs.Changed.{Changed}
 use Rattle.model.proofs.Grown.{Grown}
-use Rattle.model.proofs.Shown.{Same, rootByte, root-byte-in, root-byte-past, contents-bytes, root-blocks, root-byte, root-sound, words-pos, occ-live}
+use Rattle.model.proofs.Shown.{Same, rootByte, root-byte-in, root-byte-past, contents-bytes, root-blocks, root-byte, root-sound, words-pos, occ-live, count-kept}
 use Rattle.model.proofs.Accepting.{accepted-parts, parts-accepted, file-parts, root-sound-parts}
 
 -- file f is sound on b₂, reads `wanted`, and has its blocks of b and at most the extra ones
@@ -83,10 +83,6 @@ module _ (g : Layout) (fit : Fits g) (b b₂ : List ℕ) (len : length b ≡ len
   pos : 0 < g .words
   pos = words-pos g fit
 
-  count-same : blockCount g b ≡ blockCount g b₂
-  unfolding blockCount
-  count-same = ap (λ (x : ℕ). x / g .words) len
-
   -- a file that is not touched
   pub kept-commit : size g b f ≡ size g b₂ f → (0 < size g b f → root g b f ≡ root g b₂ f) → agree (g .words) b b₂ (root g b f % g .words) (root g b f / g .words) (size g b f)
       → T (fileSound g b f) → FileCommit g b b₂ f (contents g b f) (λ q. 0)
@@ -95,7 +91,7 @@ module _ (g : Layout) (fit : Fits g) (b b₂ : List ℕ) (len : length b ≡ len
       let n : ℕ = size g b f in
       let e = root-blocks (g .words) pos b b₂ (root g b f) (root g b₂ f) n roots tree in
       record {
-        sound = rw (← sizes, ← count-same, ← (root-sound (g .words) pos b b₂ (root g b f) (root g b₂ f) n roots tree (g .height) (blockCount g b - 1))) t;
+        sound = rw (← sizes, ← (count-kept g b b₂ len), ← (root-sound (g .words) pos b b₂ (root g b f) (root g b₂ f) n roots tree (g .height) (blockCount g b - 1))) t;
         reads = rw (contents-bytes g pos b f, contents-bytes g pos b₂ f, ← sizes) (tabulate-cong n _ _ (λ i l. sym (root-byte (g .words) pos b b₂ (root g b f) (root g b₂ f) n roots tree i l)));
         counts = λ q. rw (← sizes, ← e) (omega arith);
       }
@@ -149,7 +145,7 @@ module _ (g : Layout) (fit : Fits g) (b b₂ : List ℕ) (len : length b ≡ len
     pub written-commit : T (sound (g .words) b (blockCount g b - 1) h k (size g b f)) → FileCommit g b b₂ f (spliced g b f o new m) extra
     unfolding fileSound fileBlocks rootBlocks
     written-commit t = record {
-      sound = rw (w .now, ← count-same) (and-both (leb m (greatest g)) (rootSound (g .words) b₂ (g .height) (blockCount g b - 1) (root g b₂ f) m) (le→leb m (greatest g) (w .most))
+      sound = rw (w .now, ← (count-kept g b b₂ len)) (and-both (leb m (greatest g)) (rootSound (g .words) b₂ (g .height) (blockCount g b - 1) (root g b₂ f) m) (le→leb m (greatest g) (w .most))
           (root-sound-of (g .height) (blockCount g b - 1) (root g b₂ f) m (rw (w .height) (w .low)) (rw (w .height) (w .change .fine t))));
       reads = rw (contents-bytes g pos b₂ f, w .now) (tabulate-cong m _ _ written-byte);
       counts = λ q. rw (w .height, w .now) (omega (arith, w .change .counts q, ap (occ q) (had-blocks h k (w .old))));
@@ -164,7 +160,7 @@ module _ (g : Layout) (fit : Fits g) (b b₂ : List ℕ) (len : length b ≡ len
       let n : ℕ = size g b f in
       let old = file-parts g b f t in
       record {
-        sound = rw (← sizes, ← count-same) (and-both (leb n (greatest g)) (rootSound (g .words) b₂ (g .height) (blockCount g b - 1) (root g b₂ f) n) (le→leb n (greatest g) (old .0))
+        sound = rw (← sizes, ← (count-kept g b b₂ len)) (and-both (leb n (greatest g)) (rootSound (g .words) b₂ (g .height) (blockCount g b - 1) (root g b₂ f) n) (le→leb n (greatest g) (old .0))
             (root-sound-of (g .height) (blockCount g b - 1) (root g b₂ f) n (rw height low)
             (rw height (w .fine (root-sound-parts g b (g .height) (blockCount g b - 1) (root g b f) n live (old .1) .1)))));
         reads = rw (contents-bytes g pos b f, contents-bytes g pos b₂ f, ← sizes) (tabulate-cong n _ _ (λ i l. rw height (w .bytes i)));

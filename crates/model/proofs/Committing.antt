@@ -45,12 +45,12 @@ module _ (g : Layout) (fit : Fits g) (b c : List ℕ) (t : T (accepted g b)) (sa
       one-word : OneFile g b b₂ f wanted (λ q. 0) extra
       one-word =
           let parts = accepted-parts g b t in
-          let stays : (l : ℕ) → l < g .leaves → leaf g b l ≡ leaf g b₂ l = λ l u. leaf-kept g fit b b₂ len l (pointers l u) in
+          let stays : (l : ℕ) → l < g .leaves → leaf g b l ≡ leaf g b₂ l = λ l u. leaf-kept g b b₂ len l (pointers l u) in
           record {
             lengths = len;
-            trailers = rw (← (trailer-kept g fit b b₂ len trailers)) (parts .trailers);
-            inode = inode-kept g fit b b₂ len trailers;
-            leaves = λ l u. rw (← (leaf-sound-kept g fit b b₂ len l (pointers l u))) (parts .leaves l u);
+            trailers = rw (← (trailer-kept g b b₂ len fit trailers)) (parts .trailers);
+            inode = inode-kept g b b₂ len fit trailers;
+            leaves = λ l u. rw (← (leaf-sound-kept g b b₂ len l (pointers l u))) (parts .leaves l u);
             leaves-stay = λ l u d. stays l u;
             leaf-moved = λ q. omega (arith, ap (one q) (stays (f / g .inodes) (leaf-of g fit f f-lt)));
             others = others-from g (words-pos g fit) b c b₂ f same (spot-others g fit c facts-same f f-lt a v s);

@@ -28,7 +28,8 @@ use Rattle.model.proofs.Counting.{occ, occ-distinct, sum-once}
 use Rattle.model.proofs.Perform.{All, all-append, all-tabulate, length-performed, performed-append, performed-away, blocks-differ, stored-blocks, block-away}
 use Rattle.model.proofs.Addresses.{addresses, addresses-away, occ-addresses-append, occ-addresses-tabulate, used-once, stored-once, all-holds}
 use Rattle.model.proofs.Epochs.{Full, epochs-fenced, shaped, shaped-none, planned-either, all-chosen, standing-epochs, standing-none}
-use Rattle.model.proofs.Formatted.{Counted, counted, count-same, clears, trailerStore, commits, pages, filling, formatEpochs, length-pages, filling-some, format-epochs, filling-goes, trailer-on, format-plain, format-stores, format-empties}
+use Rattle.model.proofs.Formatted.{Counted, counted, clears, trailerStore, commits, pages, filling, formatEpochs, length-pages, filling-some, format-epochs, filling-goes, trailer-on, format-plain, format-stores, format-empties}
+use Rattle.model.proofs.Shown.{count-kept}
 
 module _ (g : Layout) (fit : Fits g) (b : List ℕ) (ok : T (wordCountSound g b)) where
   -- ---- The plan
@@ -105,7 +106,7 @@ module _ (g : Layout) (fit : Fits g) (b : List ℕ) (ok : T (wordCountSound g b)
   module _ (b′ : List ℕ) (e : length b′ ≡ length b) (z : getD b′ (trailerAddress g b 0) 0 ≡ 0) where
     root-zero : trailer g b′ 0 ≡ 0
     unfolding trailer cell trailerAddress
-    root-zero = rw (count-same g b b′ e) z
+    root-zero = rw (count-kept g b′ b e) z
 
     trailer-unsound : trailerSound g b′ ≡ false
     unfolding trailerSound

@@ -3,7 +3,7 @@ use mathlib.Core.Path.{_≡_, refl, sym, ap, _∙_}
 use mathlib.Core.Logic.{_≢_, inl, inr}
 use mathlib.Core.Bool.{Bool, _&&_}
 use mathlib.Core.List.{List, [], _∷_, _++_}
-use Prim.Native.Nat.{ℕ, zero, suc, _+_, _-_, _*_, _/_, _%_, _^_, _≤_, _<_}
+use Prim.Native.Nat.{ℕ, suc, _+_, _-_, _*_, _/_, _%_, _^_, _≤_, _<_}
 use native.Mathlib.Omega.{arith}
 use native.Mathlib.Nat.{add-assoc, mul-comm, mul-add, mul-one, mul-suc, mul-div-right, mul-mod-right, mod-lt, mod-eq-of-lt, add-mod-left, le-div-iff-mul-le, div-add-mod', div-lt-iff-lt-mul}
 use lib.ListN.{length, getD, set, length-set, length-append, length-replicate, getD-replicate}
@@ -12,7 +12,7 @@ use lib.Dec.{T, leb, eqb, leb→le, eqb→eq, eqb-refl, lit≤, lit<}
 use borrow.Author.Tests.{le-leb, lt-ltb}
 use Rattle.model.specs.Lists.{tabulate, every, distinct, concat}
 use Rattle.model.specs.Layout.{Layout, Fits, house, files}
-use Rattle.model.specs.Tree.{cell, blocks}
+use Rattle.model.specs.Tree.{cell}
 use Rattle.model.specs.Board.{rootBlocks, rootSound, trailerWord, greatest, blockCount, trailer, inodeBlock, inodePointer, leaf, rootAddress, sizeAddress, root, size, contents, fileBlocks, liveBlocks, inRange, wordCountSound, trailerSound, leafSound, fileSound, treesSound, accepted}
 use Rattle.model.specs.Store.{Store, store, barrier, performed, stores, fenced}
 use Rattle.model.specs.Fresh.{Page, stored}
@@ -22,6 +22,8 @@ use Rattle.model.specs.Claims.{Empty}
 use Rattle.model.proofs.Cases.{decide, and-left, and-right, and-both, every-all, tabulate-cong, joined-none}
 use Rattle.model.proofs.Counting.{occ, one-same, one-other, occ-append, occ-tabulate, occ-distinct, sum-none, sum-once}
 use Rattle.model.proofs.Perform.{All, Plain, all-append, all-tabulate, length-tabulate, length-performed, performed-append, performed-away, performed-tabulate, stores-fenced, address-block, block-on, blocks-differ, length-stored, stored-blocks, stored-cell}
+use Rattle.model.proofs.Trees.{blocks-dead}
+use Rattle.model.proofs.Shown.{count-kept}
 
 -- a board whose word count is in order
 pub record Counted (g : Layout) (b : List ℕ) : Type 0 where
@@ -44,11 +46,6 @@ counted g fit b ok =
       below = omega (arith, fit .addresses-fit, leb→le (length b) (g .most * g .words) (and-right low high both));
     }
 
--- boards of one length have as many blocks
-pub count-same : (g : Layout) (b b′ : List ℕ) → length b′ ≡ length b → blockCount g b′ ≡ blockCount g b
-unfolding blockCount
-count-same g b b′ e = ap (λ (x : ℕ). x / g .words) e
-
 -- what format leaves on b′ in place of b
 pub record Formatted (g : Layout) (b b′ : List ℕ) : Type 0 where
   pub lengths : length b′ ≡ length b
@@ -59,13 +56,6 @@ pub record Formatted (g : Layout) (b b′ : List ℕ) : Type 0 where
 
 -- ---- Such a board has only empty files
 
-blocks-dead : (W : ℕ) (b : List ℕ) (h k : ℕ) → blocks W b h k 0 ≡ []
-unfolding blocks
-blocks-dead W b zero zero = refl
-blocks-dead W b zero (suc k) = refl
-blocks-dead W b (suc h) zero = refl
-blocks-dead W b (suc h) (suc k) = refl
-
 module _ (g : Layout) (fit : Fits g) (b b′ : List ℕ) (ok : T (wordCountSound g b)) (p : Formatted g b b′) where
   n : Counted g b
   n = counted g fit b ok
@@ -74,7 +64,7 @@ module _ (g : Layout) (fit : Fits g) (b b′ : List ℕ) (ok : T (wordCountSound
   pos = omega (arith, fit .trailer-fits)
 
   same-count : blockCount g b′ ≡ blockCount g b
-  same-count = count-same g b b′ (p .lengths)
+  same-count = count-kept g b′ b (p .lengths)
 
   inode-block : inodeBlock g b′ ≡ 1
   unfolding inodeBlock
@@ -293,7 +283,7 @@ module _ (g : Layout) (fit : Fits g) (b : List ℕ) (ok : T (wordCountSound g b)
       (λ i m. omega (arith, length-paged, trailer-on (suc i) (omega arith))) (λ x y v w. omega arith) j (omega arith)
 
   same-blocks : blockCount g done ≡ blockCount g b
-  same-blocks = count-same g b done length-done
+  same-blocks = count-kept g done b length-done
 
   root-held : getD done (trailerAddress g b 0) 0 ≡ g .words + 1
   unfolding done

@@ -27,7 +27,7 @@ use Rattle.model.proofs.Spans.{span-mono, least-reaches, least-within}
 use Rattle.model.proofs.Agree.{agree, agree-away, agree-blocks, agree-trans}
 use Rattle.model.proofs.Built.{held, used}
 use Rattle.model.proofs.Grown.{Grown, grown}
-use Rattle.model.proofs.Shown.{Same, words-pos, leaf-of, same-address, count-kept}
+use Rattle.model.proofs.Shown.{Same, words-pos, leaf-of, same-address, count-kept, root-block}
 use Rattle.model.proofs.Accepting.{accepted-parts, Facts, facts}
 use Rattle.model.proofs.Commits.{FileCommit, grown-commit}
 use Rattle.model.proofs.Apart.{Spot, leaf-not-file, spot-ranged, spot-live, spot-size, stored-root}
@@ -35,7 +35,6 @@ use Rattle.model.proofs.Committing.{facts-same, spot-same, spot-commit,
 use Rattle.model.proofs.Supplied.{Supply, supply-once, stored-hidden, stored-apart, stored-not-live}
 use Rattle.model.proofs.Steps.{committed, allCommitted, performed-steps}
 use Rattle.model.proofs.GoodSteps.{GoodStep, epoch-same, epoch-stands}
-use Rattle.model.proofs.Visible.{root-block}
 
 -- ---- The plan
 
@@ -234,7 +233,7 @@ module _ (g : Layout) (fit : Fits g) (b : List ℕ) (t : T (accepted g b)) (f : 
     unfolding step store committed done c₁ value growthTo plan
     growth-supply = record {
       nonzero = supply .nonzero;
-      below = λ i l. rw (← (count-kept g fit b done len)) (supply .below i l);
+      below = λ i l. rw (← (count-kept g b done len)) (supply .below i l);
       apart = supply .apart;
       spare = λ i u l. omega (arith, counts-done (fresh i), supply .spare i (omega arith) l, used-none fresh (fresh i) 0 (length ps) (λ j v w x. supply .apart j i (omega arith) l (sym x)));
     }

@@ -1,6 +1,6 @@
 -- Hidden stores: a board on which any of some stores are performed, each of them hidden, shows the same.
 use mathlib.Core.Path.{_≡_, refl, sym, ap, _∙_, subst}
-use mathlib.Core.Logic.{_≢_, _⊎_, inl, inr}
+use mathlib.Core.Logic.{_⊎_, inl, inr}
 use mathlib.Core.Bool.{Bool, not, _&&_}
 use mathlib.Core.List.{List, [], _∷_}
 use Prim.Native.Nat.{ℕ, zero, suc, _+_, _-_, _*_, _/_, _%_, _≤_, _<_}
@@ -13,23 +13,25 @@ use Rattle.model.specs.Lists.{some, all, member}
 use Rattle.model.specs.Words.{byteOf}
 use Rattle.model.specs.Layout.{Layout, Fits, files}
 use Rattle.model.specs.Tree.{live, span, cell, link, blocks}
-use Rattle.model.specs.Board.{rootBlocks, blockCount, inodeBlock, leaf, rootAddress, sizeAddress, rootHeight, rootBlock, size, fileBlocks, liveBlocks, free, accepted}
+use Rattle.model.specs.Board.{rootBlocks, rootAddress, sizeAddress, rootHeight, rootBlock, size, fileBlocks, liveBlocks, free, accepted}
 use Rattle.model.specs.Store.{Store, performed}
 use Rattle.model.specs.Hidden.{keepsBytes, hiddenUnder, hiddenInFile, hidden}
 use Rattle.model.specs.Cut.{chosen}
 use Rattle.model.specs.Claims.{HiddenRule}
 use Rattle.model.proofs.Cases.{split, decide, and-left, and-right, every-of, or-cases, some-of}
-use Rattle.model.proofs.Sums.{sum-at, sum-two}
+use Rattle.model.proofs.Sums.{sum-two}
 use Rattle.model.proofs.Counting.{one, occ, one-same}
 use Rattle.model.proofs.Trees.{childBlocks}
-use Rattle.model.proofs.Perform.{All, address-block, address-place}
-use Rattle.model.proofs.Agree.{agree, agree-away, cell-away, occ-children, occ-child}
-use Rattle.model.proofs.Shown.{Same, words-pos, occ-live, file-live, leaf-of, same-shows}
+use Rattle.model.proofs.Perform.{All, address-place}
+use Rattle.model.proofs.Agree.{agree, agree-away, cell-away, occ-children, occ-child, agree-none}
+use Rattle.model.proofs.Shown.{Same, words-pos, file-live, leaf-of, same-shows, root-block}
 use Rattle.model.proofs.Accepting.{Ranged, Facts, facts}
 use Rattle.model.proofs.Census.{FreeBlock, member-free}
-use Rattle.model.proofs.Visible.{Visible, trailer-word, pointer-word, size-word, root-word, TreeSame, Unseen, directory, occ-directory, leaf-directory, root-block, size-block, visible-block, frame-same, store-same, unseen-same}
-use Rattle.model.proofs.Ranges.{file-range, root-once}
+use Rattle.model.proofs.Visible.{Unseen, frame-same, unseen-same}
+use Rattle.model.proofs.Ranges.{file-range}
+use Rattle.model.proofs.Apart.{spot-unseen, tree-not-inode-of}
 use Rattle.model.proofs.Epochs.{all-chosen}
+use native.Mathlib.Nat.{add-zero}
 
 -- ---- tests
 
@@ -130,15 +132,15 @@ module _ (W : ℕ) (pos : 0 < W) (b : List ℕ) (s : Store) where
 
 -- ---- boards
 
--- where a hidden store goes: to a free block, the root of an empty file, or a file's tree
-data Spot (g : Layout) (b : List ℕ) (s : Store) : Type 0 where
-  free-block : FreeBlock g b (s .at / g .words) → Spot g b s
-  empty-root : (f : ℕ) → f < files g → s .at ≡ rootAddress g b f → size g b f ≡ 0 → Spot g b s
-  in-tree : (f : ℕ) → f < files g → T (hiddenUnder (g .words) b s (rootHeight g b f) (rootBlock g b f) (size g b f)) → Spot g b s
+-- *to a free block*, *to the root of a file of size 0*, or in a file's tree
+data Place (g : Layout) (b : List ℕ) (s : Store) : Type 0 where
+  free-block : FreeBlock g b (s .at / g .words) → Place g b s
+  empty-root : (f : ℕ) → f < files g → s .at ≡ rootAddress g b f → size g b f ≡ 0 → Place g b s
+  in-tree : (f : ℕ) → f < files g → T (hiddenUnder (g .words) b s (rootHeight g b f) (rootBlock g b f) (size g b f)) → Place g b s
 
-hidden-spot : (g : Layout) (b : List ℕ) (s : Store) → T (hidden g b s) → Spot g b s
+hidden-place : (g : Layout) (b : List ℕ) (s : Store) → T (hidden g b s) → Place g b s
 unfolding hidden hiddenInFile
-hidden-spot g b s t =
+hidden-place g b s t =
     let in-free : Bool = member (s .at / g .words) (free g b) in
     elim (or-cases in-free (some (files g) (hiddenInFile g b s)) t) [
       | inl u ↦ free-block (member-free g b (s .at / g .words) (is-true in-free u))
@@ -153,88 +155,40 @@ hidden-spot g b s t =
           ]
     ]
 
-module _ (g : Layout) (fit : Fits g) (b : List ℕ) (ok : Facts g b) where
-  -- a visible word outside the trees is in another block than a word of a tree
-  not-in-tree : (f : ℕ) → f < files g → (a : ℕ) → 0 < occ (a / g .words) (fileBlocks g b f) → (x : ℕ) → Visible g b x → x ≢ a
-  not-in-tree f h a o x v e =
-      let same : x / g .words ≡ a / g .words = ap (λ (y : ℕ). y / g .words) e in
-      elim (visible-block g fit b x v) [
-        | inl top ↦ omega (arith, file-range g fit b ok f (a / g .words) h o .1, top, same)
-        | inr d ↦ omega (
-          arith,
-          ok .once (a / g .words),
-          occ-directory g b (a / g .words),
-          sum-at (files g) (λ i. occ (a / g .words) (fileBlocks g b i)) f h,
-          o,
-          ap (directory g b) same,
-          d,
-        )
-      ]
-
-  -- and the root of an empty file is none of the visible words
-  not-empty-root : (f : ℕ) → f < files g → size g b f ≡ 0 → (x : ℕ) → Visible g b x → x ≢ rootAddress g b f
-  unfolding sizeAddress rootAddress
-  not-empty-root f h z x (trailer-word j l) e =
-      omega (arith, ok .leaf-in (f / g .inodes) (leaf-of g fit f h) .1, address-block (g .words) (blockCount g b - 1) j l, ap (λ (y : ℕ). y / g .words) e, root-block g fit b f)
-  not-empty-root f h z x (pointer-word j l) e =
-      let same : inodeBlock g b ≡ leaf g b (f / g .inodes) = sym (address-block (g .words) (inodeBlock g b) j (omega (arith, fit .leaves-fit))) ∙ ap (λ (y : ℕ). y / g .words) e ∙ root-block g fit b f in
-      omega (
-        arith,
-        ok .once (inodeBlock g b),
-        occ-live g b (inodeBlock g b),
-        one-same (inodeBlock g b),
-        sum-at (g .leaves) (λ y. one (inodeBlock g b) (leaf g b y)) (f / g .inodes) (leaf-of g fit f h),
-        ap (one (inodeBlock g b)) same,
-      )
-  not-empty-root f h z x (size-word i l) e =
-      let leaf-same : leaf g b (i / g .inodes) ≡ leaf g b (f / g .inodes) = sym (size-block g fit b i) ∙ ap (λ (y : ℕ). y / g .words) e ∙ root-block g fit b f in
-      omega (arith, e, ap (λ (y : ℕ). g .words * y) leaf-same)
-  not-empty-root f h z x (root-word i l v) e = omega (arith, v, z, ap (size g b) (root-once g fit b ok i f l h e))
-
 module _ (g : Layout) (fit : Fits g) (b : List ℕ) (ok : Facts g b) (s : Store) where
+  pos : 0 < g .words
+  pos = words-pos g fit
+
   free-same : FreeBlock g b (s .at / g .words) → Unseen g b s
   free-same e = frame-same g fit b (set b (s .at) (s .value)) (sym (length-set b (s .at) (s .value))) (λ k c j l.
-      sym (cell-away (g .words) (words-pos g fit) b (s .at) (s .value) k j l (λ same. elim c [
+      sym (cell-away (g .words) pos b (s .at) (s .value) k j l (λ same. elim c [
         | inl top ↦ omega (arith, e .1, top, same)
         | inr o ↦ omega (arith, o, e .2, ap (λ (x : ℕ). occ x (liveBlocks g b)) same)
       ])))
 
-  under-inside : (f : ℕ) → T (hiddenUnder (g .words) b s (rootHeight g b f) (rootBlock g b f) (size g b f)) → 0 < occ (s .at / g .words) (fileBlocks g b f)
-  unfolding fileBlocks rootBlocks
-  under-inside f t = hidden-under-inside (g .words) (words-pos g fit) b s (rootHeight g b f) (rootBlock g b f) (size g b f) t
+  module _ (f : ℕ) (f-lt : f < files g) where
+    empty-root-same : s .at ≡ rootAddress g b f → size g b f ≡ 0 → Unseen g b s
+    unfolding sizeAddress
+    empty-root-same e z = spot-unseen g fit b ok f f-lt (s .at) (s .value) (inl (inl e)) (λ x. omega (arith, x, e)) (λ live. absurd (omega arith)) (agree-none (g .words) pos b (set b (s .at) (s .value)) _ _ (size g b f) z)
 
-  tree-away : (f : ℕ) → occ (s .at / g .words) (fileBlocks g b f) ≡ 0 → TreeSame g b (set b (s .at) (s .value)) f
-  unfolding fileBlocks rootBlocks
-  tree-away f o = agree-away (g .words) (words-pos g fit) b (s .at) (s .value) (rootHeight g b f) (rootBlock g b f) (size g b f) o
+    module _ (t : T (hiddenUnder (g .words) b s (rootHeight g b f) (rootBlock g b f) (size g b f))) where
+      under-inside : 0 < occ (s .at / g .words) (fileBlocks g b f)
+      unfolding fileBlocks rootBlocks
+      under-inside = hidden-under-inside (g .words) pos b s (rootHeight g b f) (rootBlock g b f) (size g b f) t
 
-  tree-dark : (f : ℕ) → f < files g → T (hiddenUnder (g .words) b s (rootHeight g b f) (rootBlock g b f) (size g b f)) → TreeSame g b (set b (s .at) (s .value)) f
-  unfolding fileBlocks rootBlocks
-  tree-dark f h t = hidden-under-dark (g .words) (words-pos g fit) b s (rootHeight g b f) (rootBlock g b f) (size g b f) (λ x. omega (arith, ok .once x, file-live g b f x h)) t
+      tree-dark : agree (g .words) b (set b (s .at) (s .value)) (rootHeight g b f) (rootBlock g b f) (size g b f)
+      unfolding fileBlocks rootBlocks
+      tree-dark = hidden-under-dark (g .words) pos b s (rootHeight g b f) (rootBlock g b f) (size g b f) (λ x. omega (arith, ok .once x, file-live g b f x f-lt)) t
 
-  in-tree-same : (f : ℕ) → f < files g → T (hiddenUnder (g .words) b s (rootHeight g b f) (rootBlock g b f) (size g b f)) → Unseen g b s
-  in-tree-same f h t =
-      let inside : 0 < occ (s .at / g .words) (fileBlocks g b f) = under-inside f t in
-      store-same g fit b (s .at) (s .value) (not-in-tree g fit b ok f h (s .at) inside) (λ i l. elim (decide i f) [
-        | inl e ↦ subst (TreeSame g b (set b (s .at) (s .value))) (sym e) (tree-dark f h t)
-        | inr d ↦ tree-away i (omega (arith, ok .once (s .at / g .words), occ-directory g b (s .at / g .words), inside, sum-two (files g) (λ j. occ (s .at / g .words) (fileBlocks g b j)) i f l h d))
-      ])
-
-  empty-root-same : (f : ℕ) → f < files g → s .at ≡ rootAddress g b f → size g b f ≡ 0 → Unseen g b s
-  empty-root-same f h e z =
-      let k : s .at / g .words ≡ leaf g b (f / g .inodes) = ap (λ (x : ℕ). x / g .words) e ∙ root-block g fit b f in
-      store-same g fit b (s .at) (s .value) (λ x v. rw e (not-empty-root g fit b ok f h z x v)) (λ i l.
-      tree-away i (rw k (omega (
-        arith,
-        ok .once (leaf g b (f / g .inodes)),
-        occ-directory g b (leaf g b (f / g .inodes)),
-        leaf-directory g b (f / g .inodes) (leaf-of g fit f h),
-        sum-at (files g) (λ j. occ (leaf g b (f / g .inodes)) (fileBlocks g b j)) i l,
-      ))))
+      in-tree-same : Unseen g b s
+      unfolding sizeAddress
+      in-tree-same = spot-unseen g fit b ok f f-lt (s .at) (s .value) (inr under-inside) (λ x. tree-not-inode-of g fit b ok f f-lt (s .at) under-inside f 1 f-lt (omega arith) (sym x))
+          (λ live x. tree-not-inode-of g fit b ok f f-lt (s .at) under-inside f 0 f-lt (omega arith) (add-zero (rootAddress g b f) ∙ sym x)) tree-dark
 
 module _ (g : Layout) (fit : Fits g) (b : List ℕ) (t : T (accepted g b)) where
   -- a hidden store alters nothing visible
   pub hidden-same : (s : Store) → T (hidden g b s) → Same g b (set b (s .at) (s .value))
-  hidden-same s u = elim (hidden-spot g b s u) [
+  hidden-same s u = elim (hidden-place g b s u) [
     | free-block e ↦ free-same g fit b (facts g fit b t) s e
     | empty-root f h e z ↦ empty-root-same g fit b (facts g fit b t) s f h e z
     | in-tree f h i ↦ in-tree-same g fit b (facts g fit b t) s f h i
@@ -242,10 +196,10 @@ module _ (g : Layout) (fit : Fits g) (b : List ℕ) (t : T (accepted g b)) where
 
   -- and goes to a block of 1 to B − 2
   pub hidden-in-range : (s : Store) → T (hidden g b s) → Ranged g b (s .at / g .words)
-  hidden-in-range s u = elim (hidden-spot g b s u) [
+  hidden-in-range s u = elim (hidden-place g b s u) [
     | free-block e ↦ (e .0, e .1)
     | empty-root f h e z ↦ rw (e, root-block g fit b f) (facts g fit b t .leaf-in (f / g .inodes) (leaf-of g fit f h))
-    | in-tree f h i ↦ file-range g fit b (facts g fit b t) f (s .at / g .words) h (under-inside g fit b (facts g fit b t) s f i)
+    | in-tree f h i ↦ file-range g fit b (facts g fit b t) f (s .at / g .words) h (under-inside g fit b (facts g fit b t) s f h i)
   ]
 
   hidden-unseen : (ss : List Store) → T (all (hidden g b) ss) → All (Unseen g b) ss

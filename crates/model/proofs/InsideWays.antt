@@ -24,7 +24,7 @@ use Rattle.model.proofs.Perform.{All, address-block}
 use Rattle.model.proofs.Addresses.{addresses, stands-set, held-of-all}
 use Rattle.model.proofs.Splice.{Small, splice-right}
 use Rattle.model.proofs.Built.{held, used}
-use Rattle.model.proofs.Shown.{Same, words-pos, leaf-of, file-live, same-address}
+use Rattle.model.proofs.Shown.{Same, words-pos, leaf-of, file-live, same-address, root-block}
 use Rattle.model.proofs.Accepting.{Facts, facts, address-on-board}
 use Rattle.model.proofs.Commits.{Written, spliced, written-commit}
 use Rattle.model.proofs.Apart.{Spot, spot-ranged, spot-live, spot-root, spot-size, stored-root, leaf-not-file, tree-not-inode-of}
@@ -33,7 +33,7 @@ use Rattle.model.proofs.Supplied.{Supply, supply-once, stored-hidden, s
 use Rattle.model.proofs.Descent.{Replaced, walk-inside, word-changed, Committed, descend-inside, descend-low, descend-changed}
 use Rattle.model.proofs.Steps.{committed}
 use Rattle.model.proofs.GoodSteps.{GoodStep, epoch-same, epoch-stands}
-use Rattle.model.proofs.Visible.{same-refl, root-block}
+use Rattle.model.proofs.Visible.{same-refl}
 
 -- a write that ends within the span is zero past it
 pub past-span : (o : ℕ) (new : List ℕ) (s m : ℕ) → o + length new ≤ s → (i : ℕ) → s ≤ i → i < m → splice o new 0 i ≡ 0

@@ -167,12 +167,12 @@ module _ (g : Layout) (fit : Fits g) (b : List ℕ) (t : T (accepted g b)) (f : 
   trailers : (j : ℕ) → j < g .words → trailer g b j ≡ trailer g b₂ j
   unfolding trailer b₂
   trailers j l =
-      let count : blockCount g b ≡ blockCount g c₁ = count-kept g fit b c₁ (shown-same .lengths) in
+      let count : blockCount g b ≡ blockCount g c₁ = count-kept g b c₁ (shown-same .lengths) in
       shown-same .trailers j l ∙ sym (cell-away (g .words) pos c₁ a (g .words * copied) (blockCount g c₁ - 1) j l (λ x. omega (arith, ok .inode .1, count, commit-block)))
-      ∙ ap (λ (x : ℕ). cell (g .words) b₂ (x - 1) j) (sym count ∙ count-kept g fit b b₂ len)
+      ∙ ap (λ (x : ℕ). cell (g .words) b₂ (x - 1) j) (sym count ∙ count-kept g b b₂ len)
 
   inode : inodeBlock g b ≡ inodeBlock g b₂
-  inode = inode-kept g fit b b₂ len trailers
+  inode = inode-kept g b b₂ len fit trailers
 
   -- the inode pointers
   pointer-stays : (l : ℕ) → l < g .leaves → l ≢ l₀ → inodePointer g b l ≡ inodePointer g b₂ l
@@ -192,10 +192,10 @@ module _ (g : Layout) (fit : Fits g) (b : List ℕ) (t : T (accepted g b)) (f : 
   leaf-new = ap (λ (x : ℕ). x / g .words) pointer-new ∙ mul-div-cancel-left copied pos
 
   leaf-stays : (l : ℕ) → l < g .leaves → l ≢ l₀ → leaf g b l ≡ leaf g b₂ l
-  leaf-stays l u d = leaf-kept g fit b b₂ len l (pointer-stays l u d)
+  leaf-stays l u d = leaf-kept g b b₂ len l (pointer-stays l u d)
 
   copied-in : Ranged g b₂ copied
-  copied-in = rw (← (count-kept g fit b b₂ len)) (supply .nonzero (c + length ps) (omega arith), supply .below (c + length ps) (omega arith))
+  copied-in = rw (← (count-kept g b b₂ len)) (supply .nonzero (c + length ps) (omega arith), supply .below (c + length ps) (omega arith))
 
   leaf-new-sound : T (leafSound g b₂ l₀)
   unfolding leafSound
@@ -205,7 +205,7 @@ module _ (g : Layout) (fit : Fits g) (b : List ℕ) (t : T (accepted g b)) (f : 
   leaves-sound : (l : ℕ) → l < g .leaves → T (leafSound g b₂ l)
   leaves-sound l u = elim (decide l l₀) [
     | inl e ↦ rw e leaf-new-sound
-    | inr d ↦ rw (← (leaf-sound-kept g fit b b₂ len l (pointer-stays l u d))) (accepted-parts g b t .leaves l u)
+    | inr d ↦ rw (← (leaf-sound-kept g b b₂ len l (pointer-stays l u d))) (accepted-parts g b t .leaves l u)
   ]
 
   -- the fresh blocks
@@ -283,7 +283,7 @@ module _ (g : Layout) (fit : Fits g) (b : List ℕ) (t : T (accepted g b)) (f : 
   outcome = one-file g fit b b₂ f (spliced g b f o new m) (λ q. one q copied) (λ q. used fresh q c (length ps))
       (record {
         lengths = len;
-        trailers = rw (← (trailer-kept g fit b b₂ len trailers)) (accepted-parts g b t .trailers);
+        trailers = rw (← (trailer-kept g b b₂ len fit trailers)) (accepted-parts g b t .trailers);
         inode = inode;
         leaves = leaves-sound;
         leaves-stay = leaf-stays;

@@ -1,23 +1,21 @@
 -- Where the live blocks and the roots of an accepted board lie.
-use mathlib.Core.Path.{_≡_, sym, ap, ap₂, _∙_}
+use mathlib.Core.Path.{_≡_}
 use mathlib.Core.Logic.{inl, inr}
 use mathlib.Core.List.{List}
-use Prim.Native.Nat.{ℕ, zero, suc, _+_, _-_, _*_, _/_, _%_, _<_}
+use Prim.Native.Nat.{ℕ, zero, suc, _-_, _*_, _/_, _%_, _<_}
 use native.Mathlib.Omega.{arith}
-use native.Mathlib.Nat.{div-add-mod'}
 use lib.Dec.{T, ltb→lt}
 use Rattle.model.specs.Lists.{sum}
 use Rattle.model.specs.Layout.{Layout, Fits, files}
 use Rattle.model.specs.Tree.{span, cell, link, blocks, sound}
-use Rattle.model.specs.Board.{rootBlocks, blockCount, inodeBlock, leaf, rootAddress, root, size, fileBlocks, liveBlocks}
+use Rattle.model.specs.Board.{rootBlocks, blockCount, inodeBlock, leaf, root, size, fileBlocks, liveBlocks}
 use Rattle.model.proofs.Cases.{split, decide}
-use Rattle.model.proofs.Sums.{sum-two, sum-some}
-use Rattle.model.proofs.Counting.{one, occ, one-same, one-other, occ-joined}
+use Rattle.model.proofs.Sums.{sum-some}
+use Rattle.model.proofs.Counting.{one, occ, one-other, occ-joined}
 use Rattle.model.proofs.Trees.{childBlocks}
 use Rattle.model.proofs.Agree.{sound-root, sound-child}
-use Rattle.model.proofs.Shown.{words-pos, occ-live, leaf-of}
+use Rattle.model.proofs.Shown.{words-pos, occ-live}
 use Rattle.model.proofs.Accepting.{Ranged, Facts}
-use Rattle.model.proofs.Visible.{root-block}
 
 one-some : (x y : ℕ) → 0 < one x y → x ≡ y
 one-some x y o = elim (decide x y) [
@@ -56,26 +54,3 @@ module _ (g : Layout) (fit : Fits g) (b : List ℕ) (ok : Facts g b) where
           rw (one-some x (leaf g b (c .0)) (c .2)) (ok .leaf-in (c .0) (c .1))
     ]
   ]
-
-  -- no two inode pointers have one leaf
-  pub leaf-once : (i j : ℕ) → i < g .leaves → j < g .leaves → leaf g b i ≡ leaf g b j → i ≡ j
-  leaf-once i j h l e = elim (decide i j) [
-    | inl same ↦ same
-    | inr d ↦ absurd (omega (
-      arith,
-      ok .once (leaf g b i),
-      occ-live g b (leaf g b i),
-      sum-two (g .leaves) (λ x. one (leaf g b i) (leaf g b x)) i j h l d,
-      one-same (leaf g b i),
-      ap (one (leaf g b i)) (sym e),
-    ))
-  ]
-
-  -- no two files have their roots at one address
-  pub root-once : (i f : ℕ) → i < files g → f < files g → rootAddress g b i ≡ rootAddress g b f → i ≡ f
-  unfolding rootAddress
-  root-once i f l h e =
-      let leaf-same : leaf g b (i / g .inodes) ≡ leaf g b (f / g .inodes) = sym (root-block g fit b i) ∙ ap (λ (x : ℕ). x / g .words) e ∙ root-block g fit b f in
-      let quotient : i / g .inodes ≡ f / g .inodes = leaf-once (i / g .inodes) (f / g .inodes) (leaf-of g fit i l) (leaf-of g fit f h) leaf-same in
-      let rest : i % g .inodes ≡ f % g .inodes = omega (arith, e, ap (λ (x : ℕ). g .words * x) leaf-same) in
-      sym (div-add-mod' i (g .inodes)) ∙ ap₂ (λ (x y : ℕ). x * g .inodes + y) quotient rest ∙ div-add-mod' f (g .inodes)

@@ -28,7 +28,7 @@ use Rattle.model.proofs.Perform.{All, all-append, length-performed, Pla
 use Rattle.model.proofs.Addresses.{addresses, all-left, all-right, all-map, all-holds}
 use Rattle.model.proofs.Epochs.{Full, epochs-fenced, shaped, shaped-none, Passed, Refusing, planned-either}
 use Rattle.model.proofs.Splice.{Small}
-use Rattle.model.proofs.Formatted.{count-same}
+use Rattle.model.proofs.Shown.{count-kept}
 use Rattle.model.proofs.Accepting.{Ranged, in-range, facts, address-on-board}
 use Rattle.model.proofs.HiddenStores.{hidden-in-range}
 use Rattle.model.proofs.Safety.{none-safe}
@@ -89,7 +89,7 @@ module _ (g : Layout) (fit : Fits g) (b : List ℕ) where
         (all-map (λ x. T (hidden g c x)) (Inside g b) (λ x h. same (hidden-in-range g fit c t x h)) (p .hidden) (s .hides)) (same (s .within))
       where
         same : {k : ℕ} → Ranged g c k → Ranged g b k
-        same r = rw (count-same g b c e) at r
+        same r = rw (count-kept g c b e) at r
 
     good-epochs : (c : List ℕ) → length c ≡ length b → T (accepted g c) → (ps : List Step) → GoodSteps g c f ps wanted → All (GoodEpoch g b) (planEpochs ps)
     unfolding GoodSteps planEpochs All

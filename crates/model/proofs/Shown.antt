@@ -5,7 +5,7 @@ use mathlib.Core.Bool.{Bool, _&&_}
 use mathlib.Core.List.{List, _∷_, _++_}
 use Prim.Native.Nat.{ℕ, zero, suc, _+_, _-_, _*_, _/_, _%_, _^_, _≤_, _<_}
 use native.Mathlib.Omega.{arith}
-use native.Mathlib.Nat.{mod-lt, mod-eq-of-lt, zero-div, div-add-mod', div-lt-iff-lt-mul}
+use native.Mathlib.Nat.{mod-lt, mod-eq-of-lt, zero-div, div-add-mod', div-lt-iff-lt-mul, add-zero, add-assoc}
 use lib.ListN.{length}
 use lib.Arith.{digits-mod, mod-mul}
 use lib.Dec.{leb, eqb}
@@ -15,7 +15,7 @@ use Rattle.model.specs.Lists.{tabulate, joined, every, sum, distinct}
 use Rattle.model.specs.Words.{byteOf}
 use Rattle.model.specs.Layout.{Layout, Fits, files}
 use Rattle.model.specs.Tree.{ending, span, link, walk, shown}
-use Rattle.model.specs.Board.{rootWalk, rootBlocks, rootSound, trailerWord, greatest, blockCount, trailer, inodeBlock, inodePointer, leaf, rootAddress, root, size, walkTo, contents, fileBlocks, liveBlocks, free, inRange, wordCountSound, trailerSound, leafSound, fileSound, treesSound, accepted}
+use Rattle.model.specs.Board.{rootWalk, rootBlocks, rootSound, trailerWord, greatest, blockCount, trailer, inodeBlock, inodePointer, leaf, rootAddress, root, size, walkTo, contents, fileBlocks, liveBlocks, free, inRange, wordCountSound, trailerSound, leafSound, fileSound, treesSound, accepted, sizeAddress}
 use Rattle.model.specs.Calls.{wordCountFault, boardFaults, checkAnswer}
 use Rattle.model.specs.Claims.{Shows}
 use Rattle.model.proofs.Cases.{split, every-cong, tabulate-cong, joined-cong}
@@ -25,6 +25,7 @@ use Rattle.model.proofs.Spans.{child, span-pos}
 use Rattle.model.proofs.Trees.{walk-dead}
 use Rattle.model.proofs.Walks.{block-pos, spanned-pos, span-blocks}
 use Rattle.model.proofs.Agree.{byteAt, spanByte, agree, seen-live, span-byte-in, span-byte-past, agree-blocks, agree-sound, agree-span-byte, blocks-none}
+use Rattle.model.proofs.Perform.{address-block}
 
 -- ---- what is seen of a byte is where the walk to it ends
 
@@ -135,7 +136,7 @@ pub words-pos : (g : Layout) → Fits g → 0 < g .words
 words-pos g fit = omega (arith, fit .trailer-fits)
 
 -- boards of one length with the same words in the trailer, and where an inode pointer is the same
-module _ (g : Layout) (fit : Fits g) (b b′ : List ℕ) (len : length b ≡ length b′) where
+module _ (g : Layout) (b b′ : List ℕ) (len : length b ≡ length b′) where
   pub count-kept : blockCount g b ≡ blockCount g b′
   unfolding blockCount
   count-kept = ap (λ (x : ℕ). x / g .words) len
@@ -148,7 +149,7 @@ module _ (g : Layout) (fit : Fits g) (b b′ : List ℕ) (len : length b ≡ len
   unfolding leafSound inRange
   leaf-sound-kept l e = rw (e, leaf-kept l e, count-kept)
 
-  module _ (trailers : (j : ℕ) → j < g .words → trailer g b j ≡ trailer g b′ j) where
+  module _ (fit : Fits g) (trailers : (j : ℕ) → j < g .words → trailer g b j ≡ trailer g b′ j) where
     pub inode-kept : inodeBlock g b ≡ inodeBlock g b′
     unfolding inodeBlock
     inode-kept = ap (λ (x : ℕ). x / g .words) (trailers 0 (words-pos g fit))
@@ -165,13 +166,13 @@ module _ (g : Layout) (fit : Fits g) (b b′ : List ℕ) (s : Same g b b′) whe
   pos = words-pos g fit
 
   pub same-count : blockCount g b ≡ blockCount g b′
-  same-count = count-kept g fit b b′ (s .lengths)
+  same-count = count-kept g b b′ (s .lengths)
 
   pub same-inode : inodeBlock g b ≡ inodeBlock g b′
-  same-inode = inode-kept g fit b b′ (s .lengths) (s .trailers)
+  same-inode = inode-kept g b b′ (s .lengths) fit (s .trailers)
 
   pub same-leaf : (l : ℕ) → l < g .leaves → leaf g b l ≡ leaf g b′ l
-  same-leaf l h = leaf-kept g fit b b′ (s .lengths) l (s .pointers l h)
+  same-leaf l h = leaf-kept g b b′ (s .lengths) l (s .pointers l h)
 
   pub same-address : (f : ℕ) → f / g .inodes < g .leaves → rootAddress g b f ≡ rootAddress g b′ f
   unfolding rootAddress
@@ -208,15 +209,15 @@ module _ (g : Layout) (fit : Fits g) (b b′ : List ℕ) (s : Same g b b′) whe
 
   same-trees : treesSound g b ≡ treesSound g b′
   unfolding treesSound
-  same-trees = ap₂ _&&_ (ap₂ _&&_ (every-cong (g .leaves) (leafSound g b) (leafSound g b′) (λ l h. leaf-sound-kept g fit b b′ (s .lengths) l (s .pointers l h))) (every-cong (files g) (fileSound g b) (fileSound g b′) same-file)) (ap distinct same-live)
+  same-trees = ap₂ _&&_ (ap₂ _&&_ (every-cong (g .leaves) (leafSound g b) (leafSound g b′) (λ l h. leaf-sound-kept g b b′ (s .lengths) l (s .pointers l h))) (every-cong (files g) (fileSound g b) (fileSound g b′) same-file)) (ap distinct same-live)
 
   pub same-accepted : accepted g b ≡ accepted g b′
   unfolding accepted
-  same-accepted = rw (same-word-count, trailer-kept g fit b b′ (s .lengths) (s .trailers), same-trees)
+  same-accepted = rw (same-word-count, trailer-kept g b b′ (s .lengths) fit (s .trailers), same-trees)
 
   same-check : checkAnswer g b ≡ checkAnswer g b′
   unfolding checkAnswer boardFaults wordCountFault
-  same-check = rw (same-word-count, trailer-kept g fit b b′ (s .lengths) (s .trailers), same-trees)
+  same-check = rw (same-word-count, trailer-kept g b b′ (s .lengths) fit (s .trailers), same-trees)
 
   -- so it shows the same
   pub same-shows : Shows g b b′
@@ -245,7 +246,7 @@ module _ (g : Layout) (b : List ℕ) where
   pub file-live : (f q : ℕ) → f < files g → occ q (fileBlocks g b f) ≤ occ q (liveBlocks g b)
   file-live f q h = omega (arith, occ-live q, sum-at (files g) (λ i. occ q (fileBlocks g b i)) f h)
 
--- ---- frame: what changes outside the live blocks and the trailer is not visible
+-- ---- where a file is
 
 module _ (g : Layout) (fit : Fits g) where
   -- the leaf of a file, and its place there
@@ -255,3 +256,15 @@ module _ (g : Layout) (fit : Fits g) where
 
   pub slot : (f : ℕ) → 2 * (f % g .inodes) + 1 < g .words
   slot f = omega (arith, mod-lt f (fit .inodes-some), fit .inodes-fit)
+
+  -- a file's inode lies in its leaf
+  pub inode-block-of : (b : List ℕ) (f d : ℕ) → d ≤ 1 → (rootAddress g b f + d) / g .words ≡ leaf g b (f / g .inodes)
+  unfolding rootAddress
+  inode-block-of b f d l = rw (add-assoc (g .words * leaf g b (f / g .inodes)) (2 * (f % g .inodes)) d) (address-block (g .words) (leaf g b (f / g .inodes)) (2 * (f % g .inodes) + d) (omega (arith, slot f)))
+
+  pub root-block : (b : List ℕ) (f : ℕ) → rootAddress g b f / g .words ≡ leaf g b (f / g .inodes)
+  root-block b f = ap (λ (x : ℕ). x / g .words) (sym (add-zero (rootAddress g b f))) ∙ inode-block-of b f 0 (omega arith)
+
+  pub size-block : (b : List ℕ) (f : ℕ) → sizeAddress g b f / g .words ≡ leaf g b (f / g .inodes)
+  unfolding sizeAddress
+  size-block b f = inode-block-of b f 1 (omega arith)

@@ -31,11 +31,10 @@ use Rattle.model.proofs.Tailed.{zeros-replicate, splice-zeros, hole-cha
 use Rattle.model.proofs.Trees.{sound-null}
 use Rattle.model.proofs.Shrunk.{shrink-changed}
 use Rattle.model.proofs.Spans.{least-within, least-reaches}
-use Rattle.model.proofs.Shown.{Same, words-pos, leaf-of, leaf-live, file-live, same-address}
+use Rattle.model.proofs.Shown.{Same, words-pos, leaf-of, leaf-live, file-live, same-address, root-block, size-block}
 use Rattle.model.proofs.Accepting.{Facts, facts}
 use Rattle.model.proofs.Commits.{Had, had-blocks, Written, spliced, written-commit}
 use Rattle.model.proofs.Apart.{Spot, spot-ranged, spot-root, stored-size, leaf-not-file}
-use Rattle.model.proofs.Visible.{root-block, size-block}
 use Rattle.model.proofs.Committing.{facts-same, spot-same, spot-commit}
 use Rattle.model.proofs.Supplied.{Supply, supply-once, stored-hidden, stored-apart, stored-not-live}
 use Rattle.model.proofs.Steps.{committed}

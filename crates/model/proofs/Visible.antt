@@ -1,24 +1,21 @@
 -- Boards that show the same, word by word. Outside the files' trees few words are visible; a store that goes to none of them and alters no tree is not seen,
 -- alone or after others that are not.
 use mathlib.Core.Path.{_≡_, refl, sym, ap, _∙_, subst}
-use mathlib.Core.Logic.{_≢_, _⊎_, inl, inr}
+use mathlib.Core.Logic.{_⊎_, inl, inr}
 use mathlib.Core.List.{List, [], _∷_}
 use Prim.Native.Nat.{ℕ, _+_, _-_, _*_, _/_, _%_, _<_}
 use native.Mathlib.Omega.{arith}
-use native.Mathlib.Nat.{mod-lt, div-add-mod', mul-comm, add-assoc}
+use native.Mathlib.Nat.{mod-lt, div-add-mod', mul-comm}
 use lib.ListN.{length, getD, set, length-set}
-use lib.Seq.{getD-set-other}
-use Rattle.model.specs.Lists.{sum}
 use Rattle.model.specs.Layout.{Layout, Fits, files}
 use Rattle.model.specs.Tree.{cell}
 use Rattle.model.specs.Board.{rootBlocks, blockCount, trailer, inodeBlock, inodePointer, leaf, rootAddress, sizeAddress, root, size, fileBlocks, liveBlocks}
 use Rattle.model.specs.Store.{Store, performed}
 use Rattle.model.proofs.Cases.{split}
-use Rattle.model.proofs.Sums.{sum-at}
-use Rattle.model.proofs.Counting.{one, occ, one-same}
+use Rattle.model.proofs.Counting.{occ}
 use Rattle.model.proofs.Perform.{All, address-block}
 use Rattle.model.proofs.Agree.{agree, agree-refl, agree-trans, agree-none, frame, dark-word, dark-again}
-use Rattle.model.proofs.Shown.{Same, words-pos, same-count, same-inode, same-leaf, occ-live, file-live, leaf-of, slot}
+use Rattle.model.proofs.Shown.{Same, same-address, inode-live, leaf-live, root-block, size-block, words-pos, same-count, same-inode, file-live, leaf-of}
 
 -- x is the address of a word of the trailer, an inode pointer, a size, or the root of a file that is not empty: of a visible word outside the files' trees
 pub data Visible (g : Layout) (b : List ℕ) : ℕ → Type 0 where
@@ -42,23 +39,6 @@ tree-found-by W pos b b′ r r′ n n′ sizes roots a = elim (split n 0) [
   | inr v ↦ rw (← (roots v), ← sizes) a
 ]
 
--- how often block q is the inode pointer block or an inode leaf
-pub directory : Layout → List ℕ → ℕ → ℕ
-directory g b q = one q (inodeBlock g b) + sum (g .leaves) (λ l. one q (leaf g b l))
-
-module _ (g : Layout) (b : List ℕ) where
-  pub occ-directory : (q : ℕ) → occ q (liveBlocks g b) ≡ directory g b q + sum (files g) (λ f. occ q (fileBlocks g b f))
-  unfolding directory
-  occ-directory q = occ-live g b q
-
-  inode-directory : 0 < directory g b (inodeBlock g b)
-  unfolding directory
-  inode-directory = omega (arith, one-same (inodeBlock g b))
-
-  pub leaf-directory : (l : ℕ) → l < g .leaves → 0 < directory g b (leaf g b l)
-  unfolding directory
-  leaf-directory l h = omega (arith, one-same (leaf g b l), sum-at (g .leaves) (λ i. one (leaf g b l) (leaf g b i)) l h)
-
 module _ (g : Layout) (fit : Fits g) where
   -- boards on which these words and the trees are the same
   pub words-same : (b b′ : List ℕ) → length b ≡ length b′ → ((x : ℕ) → Visible g b x → getD b x 0 ≡ getD b′ x 0)
@@ -81,24 +61,20 @@ module _ (g : Layout) (fit : Fits g) where
       }
 
   module _ (b c : List ℕ) (s : Same g b c) where
-    same-address : (f : ℕ) → f < files g → rootAddress g b f ≡ rootAddress g c f
-    unfolding rootAddress
-    same-address f h = ap (λ (x : ℕ). g .words * x + 2 * (f % g .inodes)) (same-leaf g fit b c s (f / g .inodes) (leaf-of g fit f h))
-
     -- the same addresses are visible on both, and the words there are the same
     visible-back : (x : ℕ) → Visible g c x → Visible g b x
     unfolding sizeAddress
     visible-back x (trailer-word j l) = subst (λ (y : ℕ). Visible g b (g .words * (y - 1) + j)) (same-count g fit b c s) (trailer-word j l)
     visible-back x (pointer-word l h) = subst (λ (y : ℕ). Visible g b (g .words * y + l)) (same-inode g fit b c s) (pointer-word l h)
-    visible-back x (size-word f h) = subst (λ (y : ℕ). Visible g b (y + 1)) (same-address f h) (size-word f h)
-    visible-back x (root-word f h v) = subst (λ (y : ℕ). Visible g b y) (same-address f h) (root-word f h (omega (arith, v, s .sizes f h)))
+    visible-back x (size-word f h) = subst (λ (y : ℕ). Visible g b (y + 1)) (same-address g fit b c s f (leaf-of g fit f h)) (size-word f h)
+    visible-back x (root-word f h v) = subst (λ (y : ℕ). Visible g b y) (same-address g fit b c s f (leaf-of g fit f h)) (root-word f h (omega (arith, v, s .sizes f h)))
 
     same-word : (x : ℕ) → Visible g b x → getD b x 0 ≡ getD c x 0
     unfolding trailer inodePointer root size sizeAddress cell
     same-word x (trailer-word j l) = s .trailers j l ∙ ap (λ (y : ℕ). getD c (g .words * (y - 1) + j) 0) (sym (same-count g fit b c s))
     same-word x (pointer-word l h) = s .pointers l h ∙ ap (λ (y : ℕ). getD c (g .words * y + l) 0) (sym (same-inode g fit b c s))
-    same-word x (size-word f h) = s .sizes f h ∙ ap (λ (y : ℕ). getD c (y + 1) 0) (sym (same-address f h))
-    same-word x (root-word f h v) = s .roots f h v ∙ ap (λ (y : ℕ). getD c y 0) (sym (same-address f h))
+    same-word x (size-word f h) = s .sizes f h ∙ ap (λ (y : ℕ). getD c (y + 1) 0) (sym (same-address g fit b c s f (leaf-of g fit f h)))
+    same-word x (root-word f h v) = s .roots f h v ∙ ap (λ (y : ℕ). getD c y 0) (sym (same-address g fit b c s f (leaf-of g fit f h)))
 
   pub same-refl : (b : List ℕ) → Same g b b
   same-refl b = record {
@@ -141,33 +117,18 @@ module _ (g : Layout) (fit : Fits g) where
 
   -- ---- where visible words lie
 
-  module _ (b : List ℕ) where
-    pub root-block : (f : ℕ) → rootAddress g b f / g .words ≡ leaf g b (f / g .inodes)
-    unfolding rootAddress
-    root-block f = address-block (g .words) (leaf g b (f / g .inodes)) (2 * (f % g .inodes)) (omega (arith, slot g fit f))
-
-    pub size-block : (f : ℕ) → sizeAddress g b f / g .words ≡ leaf g b (f / g .inodes)
-    unfolding sizeAddress rootAddress
-    size-block f = rw add-assoc (address-block (g .words) (leaf g b (f / g .inodes)) (2 * (f % g .inodes) + 1) (slot g fit f))
-
-    -- in the trailer, the inode pointer block or an inode leaf
-    pub visible-block : (x : ℕ) → Visible g b x → (x / g .words ≡ blockCount g b - 1) ⊎ (0 < directory g b (x / g .words))
-    visible-block x (trailer-word j l) = inl (address-block (g .words) (blockCount g b - 1) j l)
-    visible-block x (pointer-word l h) = inr (rw (address-block (g .words) (inodeBlock g b) l (omega (arith, fit .leaves-fit))) (inode-directory g b))
-    visible-block x (size-word f h) = inr (rw (size-block f) (leaf-directory g b (f / g .inodes) (leaf-of g fit f h)))
-    visible-block x (root-word f h v) = inr (rw (root-block f) (leaf-directory g b (f / g .inodes) (leaf-of g fit f h)))
+  -- in the trailer or a live block
+  visible-block : (b : List ℕ) (x : ℕ) → Visible g b x → (x / g .words ≡ blockCount g b - 1) ⊎ (0 < occ (x / g .words) (liveBlocks g b))
+  visible-block b x (trailer-word j l) = inl (address-block (g .words) (blockCount g b - 1) j l)
+  visible-block b x (pointer-word l h) = inr (rw (address-block (g .words) (inodeBlock g b) l (omega (arith, fit .leaves-fit))) (inode-live g b))
+  visible-block b x (size-word f h) = inr (rw (size-block g fit b f) (leaf-live g b (f / g .inodes) (leaf-of g fit f h)))
+  visible-block b x (root-word f h v) = inr (rw (root-block g fit b f) (leaf-live g b (f / g .inodes) (leaf-of g fit f h)))
 
   -- boards that have the same words in the live blocks and the trailer
   pub frame-same : (b b′ : List ℕ) → length b ≡ length b′
       → ((k : ℕ) → (k ≡ blockCount g b - 1) ⊎ (0 < occ k (liveBlocks g b)) → (j : ℕ) → j < g .words → cell (g .words) b k j ≡ cell (g .words) b′ k j) → Same g b b′
   unfolding fileBlocks rootBlocks cell
   frame-same b b′ len same = words-same b b′ len
-      (λ x v. subst (λ (y : ℕ). getD b y 0 ≡ getD b′ y 0) (omega (arith, div-add-mod' x (g .words), mul-comm (g .words) (x / g .words))) (same (x / g .words) (elim (visible-block b x v) [
-        | inl e ↦ inl e
-        | inr d ↦ inr (omega (arith, occ-directory g b (x / g .words)))
-      ]) (x % g .words) (mod-lt x (words-pos g fit))))
+      (λ x v. subst (λ (y : ℕ). getD b y 0 ≡ getD b′ y 0) (omega (arith, div-add-mod' x (g .words), mul-comm (g .words) (x / g .words)))
+      (same (x / g .words) (visible-block b x v) (x % g .words) (mod-lt x (words-pos g fit))))
       (λ f h. frame (g .words) (words-pos g fit) b b′ (root g b f % g .words) (root g b f / g .words) (size g b f) (λ k o. same k (inr (omega (arith, file-live g b f k h)))))
-
-  -- a store to none of the visible words that alters no tree
-  pub store-same : (b : List ℕ) (a v : ℕ) → ((x : ℕ) → Visible g b x → x ≢ a) → ((f : ℕ) → f < files g → TreeSame g b (set b a v) f) → Same g b (set b a v)
-  store-same b a v other tree = words-same b (set b a v) (sym (length-set b a v)) (λ x s. sym (getD-set-other b a x v 0 (other x s))) tree
