@@ -15,8 +15,8 @@ use Rattle.model.proofs.Cases.{split, and-left, and-right, and-both, ev
 use Rattle.model.proofs.Counting.{occ, distinct-occ, occ-distinct}
 use Rattle.model.proofs.Perform.{block-on}
 use Rattle.model.proofs.Agree.{sound-none}
-use Rattle.model.proofs.Formatted.{Counted, counted}
 use Rattle.model.proofs.Shown.{words-pos}
+use Rattle.model.proofs.Formatted.{Counted, counted}
 
 -- k is one of 1 to B − 2
 abbrev pub Ranged : Layout → List ℕ → ℕ → Type 0

@@ -152,7 +152,7 @@ module _ (fresh : ℕ → ℕ) where
   unfolding used
   used-once q c m d = sum-once q m (λ i. fresh (c + i)) (λ i j u v. d (c + i) (c + j) (omega arith) (omega arith) (omega arith))
 
-  used-first : (q c m : ℕ) → used fresh q c (suc m) ≡ one q (fresh c) + used fresh q (suc c) m
+  pub used-first : (q c m : ℕ) → used fresh q c (suc m) ≡ one q (fresh c) + used fresh q (suc c) m
   used-first q c m = ap (used fresh q c) (omega arith) ∙ used-add fresh q c 1 m ∙ ap₂ _+_ (used-one fresh q c) (ap (λ (y : ℕ). used fresh q y m) (omega arith))
 
 module _ (W : ℕ) (fresh : ℕ → ℕ) where

@@ -19,8 +19,8 @@ use Rattle.model.proofs.Sums.{sum-at, sum-zero}
 use Rattle.model.proofs.Counting.{one, occ, one-same, occ-joined}
 use Rattle.model.proofs.Bytes.{byteOf-lt}
 use Rattle.model.proofs.Spans.{child, span-pos}
-use Rattle.model.proofs.Trees.{blocks-dead, blocks-null, sound-dead, sound-null, childBlocks}
 use Rattle.model.proofs.Perform.{All, address-block}
+use Rattle.model.proofs.Trees.{blocks-dead, blocks-null, sound-dead, sound-null, childBlocks}
 
 module _ (W : ℕ) where
   -- byte i of the tree (h, k, n) as it is seen: 0 past the n bytes below the size and in a hole

@@ -9,8 +9,8 @@ use native.Mathlib.Omega.{arith}
 use lib.ListN.{length, getD, set, drop, length-set}
 use lib.Seq.{getD-drop, getD-set-same, getD-set-other, set-out}
 use lib.Dec.{leb, ltb}
-use Rattle.model.specs.declared.WalkEnd.{WalkEnd}
 use Rattle.model.specs.declared.WalkEnd.the-variants.{Block, Hole}
+use Rattle.model.specs.declared.WalkEnd.{WalkEnd}
 use Rattle.model.specs.Lists.{tabulate, joined, every}
 use Rattle.model.specs.Words.{byteOf}
 use Rattle.model.specs.Layout.{Layout}

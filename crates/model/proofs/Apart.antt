@@ -17,8 +17,8 @@ use Rattle.model.proofs.Counting.{one, occ, one-same}
 use Rattle.model.proofs.Agree.{agree-away, cell-away, agree}
 use Rattle.model.proofs.Shown.{words-pos, occ-live, leaf-live, file-live, leaf-of, count-kept, inode-block-of, root-block, size-block, Same}
 use Rattle.model.proofs.Accepting.{Facts, Ranged, address-on-board}
-use Rattle.model.proofs.Commits.{Others}
 use Rattle.model.proofs.Ranges.{file-range}
+use Rattle.model.proofs.Commits.{Others}
 
 -- ---- Blocks
 

@@ -9,9 +9,9 @@ use native.Mathlib.Nat.{div-lt-iff-lt-mul, mod-lt}
 use lib.ListN.{length, getD, take, drop}
 use lib.Dec.{leb, ltb, eqb}
 use borrow.Author.Tests.{leb-false, ltb-true, eq-eqb, not-true, not-false}
-use Rattle.model.specs.declared.Fault.{Fault}
-use Rattle.model.specs.declared.Fault.the-variants.{WordCount, Trailer, Damaged, FileNumber, Offset, End, FreeBlocks, PairCount, PlanLength, Address}
 use Rattle.model.specs.declared.Answer.the-variants.{Refused}
+use Rattle.model.specs.declared.Fault.the-variants.{WordCount, Trailer, Damaged, FileNumber, Offset, End, FreeBlocks, PairCount, PlanLength, Address}
+use Rattle.model.specs.declared.Fault.{Fault}
 use Rattle.model.specs.Lists.{tabulate, joined, every, all, consIf, pickFrom, member, distinct}
 use Rattle.model.specs.Layout.{Layout, Fits, files}
 use Rattle.model.specs.Board.{trailerWord, greatest, blockCount, trailer, inodeBlock, inodePointer, leaf, size, contents, fileBlocks, liveBlocks, free, inRange, wordCountSound, trailerSound, leafSound, fileSound, treesSound}

@@ -6,11 +6,11 @@ use mathlib.Core.List.{List, [], _∷_}
 use Prim.Native.Nat.{ℕ, zero, suc, _+_, _-_, _≤_, _<_}
 use native.Mathlib.Omega.{arith}
 use lib.ListN.{length, getD}
-use lib.Dec.{T}
 use borrow.Author.Tests.{eq-eqb, ne-eqb, not-true}
 use Rattle.model.specs.Lists.{consIf, pickFrom, member}
-use Rattle.model.specs.Layout.{Layout, Fits}
-use Rattle.model.specs.Board.{blockCount, liveBlocks, free, accepted}
+use Rattle.model.specs.Layout.{Layout}
+use Rattle.model.specs.Board.{blockCount, liveBlocks, free}
+use Rattle.model.specs.Claims.{CensusRule}
 use Rattle.model.proofs.Cases.{split, decide, either}
 use Rattle.model.proofs.Counting.{occ, one-same, member-none, member-some}
 use Rattle.model.proofs.Live.{below}
@@ -180,7 +180,7 @@ others-count c n (x ∷ xs) once range =
     )
 
 -- the live blocks, the free ones, block 0 and the trailer are all
-pub census : (g : Layout) → Fits g → (b : List ℕ) → T (accepted g b) → length (liveBlocks g b) + length (free g b) + 2 ≡ blockCount g b
+pub census : CensusRule
 unfolding free
 census g fit b t =
     let a : Facts g b = facts g fit b t in

@@ -11,8 +11,8 @@ use native.Mathlib.Nat.{mod-lt, mod-eq-of-lt, div-add-mod', mod-mod-of-dvd, dvd-
 use lib.ListN.{length, getD}
 use lib.Dec.{T, eqb→eq}
 use borrow.Author.Tests.{le-leb, lt-leb}
-use Rattle.model.specs.declared.WalkEnd.{WalkEnd}
 use Rattle.model.specs.declared.WalkEnd.the-variants.{Block, Hole}
+use Rattle.model.specs.declared.WalkEnd.{WalkEnd}
 use Rattle.model.specs.Words.{byteOf}
 use Rattle.model.specs.Tree.{ending, span, aligned, cell, link, walk, blocks, sound}
 use Rattle.model.specs.Fresh.{splice, part, build}
@@ -23,8 +23,8 @@ use Rattle.model.proofs.Sums.{sum-at, sum-two, only, only-same, sum-onl
 use Rattle.model.proofs.Counting.{occ, one-same}
 use Rattle.model.proofs.Bytes.{byteOf-lt, byteOf-wordOf}
 use Rattle.model.proofs.Spans.{span-power, child}
-use Rattle.model.proofs.Trees.{childBlocks, walk-null}
 use Rattle.model.proofs.Perform.{address-block}
+use Rattle.model.proofs.Trees.{childBlocks, walk-null}
 use Rattle.model.proofs.Agree.{byteAt, seen-live, frame, beneath, aligned-zero, sound-child, sound-root, occ-children, occ-root, occ-child}
 use Rattle.model.proofs.Splice.{Small, length-part, splice-small, splice-part, splice-skip, part-whole, part-none}
 use Rattle.model.proofs.Changed.{Changed, weaken, kept, node}

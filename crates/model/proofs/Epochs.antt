@@ -11,18 +11,18 @@ use lib.ListN.{length, getD, take, drop}
 use lib.Seq.{sets, sets-eq, take-append-seam, take-nil}
 use lib.Dec.{T, ltb, lt→ltb}
 use borrow.Author.Tests.{ltb-false, ne-eqb}
-use Rattle.model.specs.declared.Fault.{Fault}
-use Rattle.model.specs.declared.Fault.the-variants.{PlanLength}
 use Rattle.model.specs.declared.Answer.the-variants.{Done, Refused}
+use Rattle.model.specs.declared.Fault.the-variants.{PlanLength}
+use Rattle.model.specs.declared.Fault.{Fault}
 use Rattle.model.specs.Lists.{consIf, distinct, concat}
-use Rattle.model.specs.Answers.{Faults, answered, unlessRefused, counted}
 use Rattle.model.specs.Store.{Store, store, barrier, isBarrier, performed, opening, epochs, fenced, flat, paired, laid}
+use Rattle.model.specs.Answers.{Faults, answered, unlessRefused, counted}
 use Rattle.model.specs.Calls.{Planned, planned}
 use Rattle.model.specs.Cut.{Cut, chosen, planOf, standing}
 use Rattle.model.specs.Claims.{Shaped}
 use Rattle.model.proofs.Cases.{either}
-use Rattle.model.proofs.Addresses.{addresses, all-left, all-right, all-map, all-holds}
 use Rattle.model.proofs.Perform.{All, Plain}
+use Rattle.model.proofs.Addresses.{addresses, all-left, all-right, all-map, all-holds}
 
 -- ---- Epochs
 

@@ -15,8 +15,8 @@ use Rattle.model.specs.Layout.{Layout, Fits, house, files}
 use Rattle.model.specs.Tree.{cell}
 use Rattle.model.specs.Board.{rootBlocks, rootSound, trailerWord, greatest, blockCount, trailer, inodeBlock, inodePointer, leaf, rootAddress, sizeAddress, root, size, contents, fileBlocks, liveBlocks, inRange, wordCountSound, trailerSound, leafSound, fileSound, treesSound, accepted}
 use Rattle.model.specs.Store.{Store, store, barrier, performed, stores, fenced}
-use Rattle.model.specs.Fresh.{Page, stored}
 use Rattle.model.specs.Plan.{plan, step, stepEpochs, planEpochs, pairs}
+use Rattle.model.specs.Fresh.{Page, stored}
 use Rattle.model.specs.Format.{inodePage, formatPages, trailerAddress, trailerStores, formatPlan}
 use Rattle.model.specs.Claims.{Empty}
 use Rattle.model.proofs.Cases.{decide, and-left, and-right, and-both, every-all, tabulate-cong, joined-none}

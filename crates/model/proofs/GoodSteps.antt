@@ -16,8 +16,8 @@ use Rattle.model.proofs.Perform.{All}
 use Rattle.model.proofs.Addresses.{addresses, Stands, all-map, all-holds, performed-holds}
 use Rattle.model.proofs.Shown.{Same}
 use Rattle.model.proofs.Accepting.{Ranged, facts, address-on-board}
-use Rattle.model.proofs.HiddenStores.{hidden-in-range, hidden-all-same}
 use Rattle.model.proofs.Commits.{Outcome}
+use Rattle.model.proofs.HiddenStores.{hidden-in-range, hidden-all-same}
 use Rattle.model.proofs.Steps.{committed, SafeStep}
 
 pub record GoodStep (g : Layout) (b : List ℕ) (f : ℕ) (p : Step) (wanted : List ℕ) : Type 0 where

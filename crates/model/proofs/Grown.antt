@@ -16,8 +16,8 @@ use Rattle.model.proofs.Cases.{split}
 use Rattle.model.proofs.Sums.{sum-le, only, only-same, sum-only}
 use Rattle.model.proofs.Counting.{one, occ}
 use Rattle.model.proofs.Spans.{child, span-pos, span-mono}
-use Rattle.model.proofs.Trees.{blocks-null, sound-null}
 use Rattle.model.proofs.Perform.{length-tabulate}
+use Rattle.model.proofs.Trees.{blocks-null, sound-null}
 use Rattle.model.proofs.Agree.{byteAt, spanByte, agree, byteAt-null, span-byte-in, span-byte-past, span-byte-null, agree-span-byte, link-cell, agree-blocks, agree-sound, beneath, occ-above, sound-node, aligned-zero}
 use Rattle.model.proofs.Built.{held, held-left, held-right, used}
 

@@ -3,10 +3,10 @@
 use mathlib.Core.Path.{_≡_, refl, sym, ap, subst, _∙_}
 use mathlib.Core.Logic.{inl, inr}
 use mathlib.Core.Bool.{true, and-false}
-use mathlib.Core.List.{List, [], _∷_}
+use mathlib.Core.List.{List, [], _∷_, append-nil}
 use Prim.Native.Nat.{ℕ, zero, suc, _+_, _-_, _*_, _/_, _%_, _≤_, _<_}
 use native.Mathlib.Omega.{arith}
-use native.Mathlib.Nat.{mod-eq-of-lt, mul-add-mod-self-left}
+use native.Mathlib.Nat.{mod-eq-of-lt, mul-add-mod-self-left, zero-add}
 use lib.ListN.{length, set, length-set}
 use lib.Dec.{T}
 use borrow.Author.Tests.{lt-ltb, le-ltb}
@@ -16,18 +16,18 @@ use Rattle.model.specs.Tree.{live, span, least}
 use Rattle.model.specs.Board.{rootBlocks, greatest, blockCount, rootAddress, sizeAddress, root, size, contents, fileBlocks, liveBlocks, accepted}
 use Rattle.model.specs.Store.{Store, store, performed}
 use Rattle.model.specs.Hidden.{hidden}
-use Rattle.model.specs.Fresh.{Page, stored}
 use Rattle.model.specs.Plan.{Step, step, plan, planEpochs}
+use Rattle.model.specs.Fresh.{Page, stored}
 use Rattle.model.specs.Change.{levels, levelTop, growthTo, growth}
 use Rattle.model.proofs.Cases.{split}
 use Rattle.model.proofs.Counting.{occ}
+use Rattle.model.proofs.Spans.{span-mono, least-reaches, least-within}
 use Rattle.model.proofs.Perform.{All, address-block}
 use Rattle.model.proofs.Addresses.{addresses, stands-set, held-of-all, used-none}
-use Rattle.model.proofs.Spans.{span-mono, least-reaches, least-within}
 use Rattle.model.proofs.Agree.{agree, agree-away, agree-blocks, agree-trans}
 use Rattle.model.proofs.Built.{held, used}
 use Rattle.model.proofs.Grown.{Grown, grown}
-use Rattle.model.proofs.Shown.{Same, words-pos, leaf-of, same-address, count-kept, root-block}
+use Rattle.model.proofs.Shown.{Same, words-pos, leaf-of, same-address, count-kept, root-block, leaf-live}
 use Rattle.model.proofs.Accepting.{accepted-parts, Facts, facts}
 use Rattle.model.proofs.Commits.{FileCommit, grown-commit}
 use Rattle.model.proofs.Apart.{Spot, leaf-not-file, spot-ranged, spot-live, spot-size, stored-root}
@@ -35,6 +35,7 @@ use Rattle.model.proofs.Committing.{facts-same, spot-same, spot-commit,
 use Rattle.model.proofs.Supplied.{Supply, supply-once, stored-hidden, stored-apart, stored-not-live}
 use Rattle.model.proofs.Steps.{committed, allCommitted, performed-steps}
 use Rattle.model.proofs.GoodSteps.{GoodStep, epoch-same, epoch-stands}
+use Rattle.model.proofs.Taking.{Takes}
 
 -- ---- The plan
 
@@ -78,6 +79,18 @@ module _ (g : Layout) (fresh : ℕ → ℕ) (b : List ℕ) (f e : ℕ) where
   pub growth-spanned : e ≤ span (g .words) (root g b f % g .words) → growth g fresh b f e ≡ plan [] 0
   unfolding growth
   growth-spanned l = rw (le-ltb (span (g .words) (root g b f % g .words)) e l, and-false)
+
+module _ (g : Layout) (fit : Fits g) (fresh : ℕ → ℕ) (b : List ℕ) (f h : ℕ) where
+  pub growth-takes : f < files g → Takes g b fresh 0 (growthTo g fresh b f h .taken) (growthStep g fresh b f h)
+  unfolding growthTo plan step store All
+  growth-takes f-lt = record {
+    pages = growthPages g fresh b f h;
+    others = [];
+    is = sym (append-nil (stored (g .words) fresh (growthPages g fresh b f h) 0));
+    count = sym (zero-add (length (growthPages g fresh b f h)));
+    others-live = tt;
+    commit-live = rw (root-block g fit b f) (leaf-live g b (f / g .inodes) (leaf-of g fit f f-lt));
+  }
 
 -- ---- The step
 
@@ -227,6 +240,10 @@ module _ (g : Layout) (fit : Fits g) (b : List ℕ) (t : T (accepted g b)) (f : 
     counts-done : (q : ℕ) → occ q (liveBlocks g done) ≤ occ q (liveBlocks g b) + used fresh q 0 (length ps)
     unfolding done
     counts-done = spot-counts g fit b c₁ t shown-same f f-lt (rootAddress g b f) value commit-spot (contents g b f) (λ q. used fresh q 0 (length ps)) file-grown met-once
+
+    pub growth-counts : (q : ℕ) → occ q (liveBlocks g (committed b (growthStep g fresh b f h))) ≤ occ q (liveBlocks g b) + used fresh q 0 (growthTo g fresh b f h .taken)
+    unfolding step store committed done c₁ value growthTo plan
+    growth-counts = counts-done
 
     -- so the fresh blocks that are left are still not live
     pub growth-supply : Supply g (committed b (growthStep g fresh b f h)) fresh (growthTo g fresh b f h .taken) lim

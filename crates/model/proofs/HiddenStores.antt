@@ -5,6 +5,7 @@ use mathlib.Core.Bool.{Bool, not, _&&_}
 use mathlib.Core.List.{List, [], _∷_}
 use Prim.Native.Nat.{ℕ, zero, suc, _+_, _-_, _*_, _/_, _%_, _≤_, _<_}
 use native.Mathlib.Omega.{arith}
+use native.Mathlib.Nat.{add-zero}
 use lib.ListN.{length, getD, set, length-set}
 use lib.Seq.{getD-set-same, getD-set-other, set-out}
 use lib.Dec.{T, leb, eqb, leb→le, eqb→eq}
@@ -21,17 +22,16 @@ use Rattle.model.specs.Claims.{HiddenRule}
 use Rattle.model.proofs.Cases.{split, decide, and-left, and-right, every-of, or-cases, some-of}
 use Rattle.model.proofs.Sums.{sum-two}
 use Rattle.model.proofs.Counting.{one, occ, one-same}
-use Rattle.model.proofs.Trees.{childBlocks}
 use Rattle.model.proofs.Perform.{All, address-place}
+use Rattle.model.proofs.Epochs.{all-chosen}
+use Rattle.model.proofs.Trees.{childBlocks}
 use Rattle.model.proofs.Agree.{agree, agree-away, cell-away, occ-children, occ-child, agree-none}
 use Rattle.model.proofs.Shown.{Same, words-pos, file-live, leaf-of, same-shows, root-block}
 use Rattle.model.proofs.Accepting.{Ranged, Facts, facts}
+use Rattle.model.proofs.Ranges.{file-range}
 use Rattle.model.proofs.Census.{FreeBlock, member-free}
 use Rattle.model.proofs.Visible.{Unseen, frame-same, unseen-same}
-use Rattle.model.proofs.Ranges.{file-range}
 use Rattle.model.proofs.Apart.{spot-unseen, tree-not-inode-of}
-use Rattle.model.proofs.Epochs.{all-chosen}
-use native.Mathlib.Nat.{add-zero}
 
 -- ---- tests
 

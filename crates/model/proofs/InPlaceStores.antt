@@ -20,11 +20,11 @@ use Rattle.model.proofs.Cases.{split, and-both, every-all, or-left, or-
 use Rattle.model.proofs.Sums.{sum-le, sum-add}
 use Rattle.model.proofs.Counting.{one, occ, occ-joined}
 use Rattle.model.proofs.Bytes.{byteOf-lt, byteOf-wordOf}
-use Rattle.model.proofs.Trees.{childBlocks}
 use Rattle.model.proofs.Perform.{All, address-block, address-place}
+use Rattle.model.proofs.Addresses.{addresses, all-joined, all-map, occ-addresses-joined, addresses-counted, block-once}
+use Rattle.model.proofs.Trees.{childBlocks}
 use Rattle.model.proofs.Agree.{seen-live, seen-lt}
 use Rattle.model.proofs.Splice.{Small, small-part, splice-left, splice-small}
-use Rattle.model.proofs.Addresses.{addresses, all-joined, all-map, occ-addresses-joined, addresses-counted, block-once}
 
 not-live : (n : ℕ) → n ≤ 0 → T (not (live n))
 unfolding live

@@ -12,11 +12,11 @@ use borrow.Author.Tests.{lt-ltb}
 use Rattle.model.specs.declared.WalkEnd.the-variants.{Block}
 use Rattle.model.specs.Layout.{Layout, Fits, files}
 use Rattle.model.specs.Tree.{span, cell, walk}
-use Rattle.model.specs.Board.{rootWalk, rootBlocks, blockCount, rootAddress, sizeAddress, root, size, walkTo, fileBlocks, accepted}
+use Rattle.model.specs.Board.{rootWalk, rootBlocks, blockCount, rootAddress, sizeAddress, root, size, walkTo, fileBlocks, liveBlocks, accepted}
 use Rattle.model.specs.Store.{Store, store, performed}
 use Rattle.model.specs.Hidden.{hidden}
-use Rattle.model.specs.Fresh.{splice, stored}
 use Rattle.model.specs.Plan.{step}
+use Rattle.model.specs.Fresh.{splice, stored}
 use Rattle.model.specs.Change.{splicedWord, Shadow, descend}
 use Rattle.model.proofs.Cases.{decide}
 use Rattle.model.proofs.Counting.{occ}
@@ -24,16 +24,16 @@ use Rattle.model.proofs.Perform.{All, address-block}
 use Rattle.model.proofs.Addresses.{addresses, stands-set, held-of-all}
 use Rattle.model.proofs.Splice.{Small, splice-right}
 use Rattle.model.proofs.Built.{held, used}
+use Rattle.model.proofs.Descent.{Replaced, walk-inside, word-changed, Committed, descend-inside, descend-low, descend-changed}
 use Rattle.model.proofs.Shown.{Same, words-pos, leaf-of, file-live, same-address, root-block}
 use Rattle.model.proofs.Accepting.{Facts, facts, address-on-board}
+use Rattle.model.proofs.Visible.{same-refl}
 use Rattle.model.proofs.Commits.{Written, spliced, written-commit}
 use Rattle.model.proofs.Apart.{Spot, spot-ranged, spot-live, spot-root, spot-size, stored-root, leaf-not-file, tree-not-inode-of}
 use Rattle.model.proofs.Committing.{facts-same, spot-same, spot-commit}
 use Rattle.model.proofs.Supplied.{Supply, supply-once, stored-hidden, stored-apart, stored-not-live, stored-keeps}
-use Rattle.model.proofs.Descent.{Replaced, walk-inside, word-changed, Committed, descend-inside, descend-low, descend-changed}
 use Rattle.model.proofs.Steps.{committed}
 use Rattle.model.proofs.GoodSteps.{GoodStep, epoch-same, epoch-stands}
-use Rattle.model.proofs.Visible.{same-refl}
 
 -- a write that ends within the span is zero past it
 pub past-span : (o : ℕ) (new : List ℕ) (s m : ℕ) → o + length new ≤ s → (i : ℕ) → s ≤ i → i < m → splice o new 0 i ≡ 0
@@ -108,6 +108,9 @@ module _ (g : Layout) (fit : Fits g) (b : List ℕ) (t : T (accepted g b)) (f : 
       change = rw (← root-stays)
           (word-changed (g .words) pos b b₂ new small (blockCount g b - 1) (root g b f % g .words) (root g b f / g .words) (size g b f) o K walked (omega arith) word replaced (getD-set-same b a v 0 on-board));
     }
+
+    pub single-live : 0 < occ (a / g .words) (liveBlocks g b)
+    single-live = spot-live g fit b ok f f-lt a spot
 
     pub single-good : GoodStep g b f (step [] a v) (spliced g b f o new (size g b f))
     unfolding step store committed performed All occ
@@ -251,6 +254,9 @@ module _ (g : Layout) (fit : Fits g) (b : List ℕ) (t : T (accepted g b)) (f : 
             (λ e. ap (λ (x : ℕ). x / g .words) (root-hit e ∙ sym commits ∙ ap (λ (x : ℕ). getD done x 0) e))
             (λ d. ap (λ (x : ℕ). x / g .words) (sym (root-else d)));
       }
+
+      pub inside-live : 0 < occ (sh .at / g .words) (liveBlocks g b)
+      inside-live = spot-live g fit b ok f f-lt (sh .at) lent-spot
 
       pub inside-good : GoodStep g b f (step ss (sh .at) (g .words * top + low)) (spliced g b f o new (size g b f))
       unfolding step store committed done c₁ value

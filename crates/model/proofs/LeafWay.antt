@@ -1,7 +1,7 @@
 -- Shadow with length: fresh blocks for the written paths of a file's tree and a fresh copy of its inode leaf. The commit is the inode pointer.
 use mathlib.Core.Path.{_≡_, refl, sym, ap, _∙_, subst}
 use mathlib.Core.Logic.{_≢_, inl, inr}
-use mathlib.Core.List.{List, [], _∷_, _++_}
+use mathlib.Core.List.{List, [], _∷_, _++_, append-nil}
 use Prim.Native.Nat.{ℕ, _+_, _-_, _*_, _/_, _%_, _≤_, _<_, max}
 use native.Mathlib.Omega.{arith}
 use native.Mathlib.Nat.{add-zero, add-assoc, mod-lt, mod-eq-of-lt, mul-add-mod-self-left, mul-div-cancel-left, mul-mod-right}
@@ -20,11 +20,11 @@ use Rattle.model.specs.Change.{leafPage, shadowWithLength}
 use Rattle.model.proofs.Cases.{decide, and-both}
 use Rattle.model.proofs.Counting.{one, occ}
 use Rattle.model.proofs.Perform.{All, address-block}
+use Rattle.model.proofs.Addresses.{addresses, stands-set, held-of-all}
 use Rattle.model.proofs.Agree.{agree, frame, cell-away}
 use Rattle.model.proofs.Splice.{Small, Cover}
 use Rattle.model.proofs.Changed.{Changed}
 use Rattle.model.proofs.Built.{held, used, used-add, used-one, length-build, held-left, held-right, build-changed}
-use Rattle.model.proofs.Addresses.{addresses, stands-set, held-of-all}
 use Rattle.model.proofs.Shown.{Same, words-pos, count-kept, inode-kept, trailer-kept, leaf-kept, leaf-sound-kept, inode-live, leaf-live, file-live, leaf-of, slot}
 use Rattle.model.proofs.Accepting.{Ranged, in-range, accepted-parts, Facts, facts, address-on-board}
 use Rattle.model.proofs.Commits.{Written, spliced, written-commit, Others, Outcome, one-file}
@@ -32,6 +32,7 @@ use Rattle.model.proofs.Apart.{inode-not-leaf, file-not-inode, inodes-a
 use Rattle.model.proofs.Supplied.{Supply, supply-once, stored-hidden, stored-apart, stored-not-live, stored-keeps}
 use Rattle.model.proofs.Steps.{committed}
 use Rattle.model.proofs.GoodSteps.{GoodStep, epoch-same, epoch-stands}
+use Rattle.model.proofs.Taking.{Takes}
 use Rattle.model.proofs.InsideWays.{past-span}
 
 -- ---- The step
@@ -57,6 +58,17 @@ module _ (g : Layout) (fresh : ℕ → ℕ) (b : List ℕ) (f o : ℕ) (new : Li
   pub leaf-plan : shadowWithLength g fresh b f o new c ≡ plan (leafStep ∷ []) (c + length treePages + 1)
   unfolding shadowWithLength
   leaf-plan = refl
+
+  pub leaf-takes : Fits g → f < files g → Takes g b fresh c (c + length treePages + 1) leafStep
+  unfolding step store All
+  leaf-takes fit f-lt = record {
+    pages = shadowPages;
+    others = [];
+    is = sym (append-nil (stored (g .words) fresh shadowPages c));
+    count = omega (arith, length-append treePages (leafPage g fresh b f newRoot (max (size g b f) (o + length new)) ∷ []));
+    others-live = tt;
+    commit-live = rw (address-block (g .words) (inodeBlock g b) (f / g .inodes) (omega (arith, leaf-of g fit f f-lt, fit .leaves-fit))) (inode-live g b);
+  }
 
 -- ---- The copy of the leaf
 

@@ -1,51 +1,59 @@
--- Theorems about the definitions of specs/: loops and counting (Cases, Counting), spans (Spans), trees one level at a time (Trees), where live
--- blocks lie (Live), walks block by block (Walks), lists of faults (Refusals), stores (Perform), format (Formatted),
--- and the marked examples by computation (Computing, Marked).
+-- Theorems about the definitions of specs/. docs/PROOF.md says how they lead to the rules.
+
+-- Cases on numbers, loops, counting, bytes, spans; stores, addresses and epochs; lists of faults
 pub mod Cases
 pub mod Sums
 pub mod Counting
-pub mod Spans
-pub mod Trees
 pub mod Bytes
+pub mod Spans
+pub mod Perform
+pub mod Addresses
+pub mod Altering
+pub mod Refusals
+pub mod Epochs
+-- Trees: one level at a time, where their blocks lie, walks, boards that agree on a tree; what a tree becomes by each kind of change
+pub mod Trees
+pub mod Live
+pub mod Walks
 pub mod Agree
 pub mod Splice
 pub mod Changed
 pub mod Built
-pub mod Addresses
 pub mod InPlaceStores
 pub mod Tailed
-pub mod Altering
+pub mod Descent
 pub mod Shrunk
 pub mod Grown
-pub mod Live
-pub mod Walks
+-- Boards: what is shown, format, what acceptance says, free blocks, commits, hidden stores
 pub mod Shown
-pub mod Descent
-pub mod Refusals
-pub mod Perform
-pub mod Epochs
 pub mod Formatted
-pub mod FormatCut
 pub mod Accepting
+pub mod Ranges
 pub mod Census
 pub mod Visible
-pub mod Ranges
-pub mod HiddenStores
-pub mod Safety
-pub mod Steps
 pub mod Commits
 pub mod Apart
+pub mod HiddenStores
 pub mod Committing
-pub mod GoodSteps
-pub mod InsideWays
-pub mod GrowthWay
-pub mod LeafWay
-pub mod SizeWays
-pub mod Plans
-pub mod Rules
 pub mod Supplied
+-- Plans: safe plans obey the power-cut rule; every way of planning is one good step, or growth and another
+pub mod Safety
+pub mod Steps
+pub mod GoodSteps
+pub mod Taking
+pub mod InsideWays
+pub mod SizeWays
+pub mod LeafWay
+pub mod GrowthWay
+pub mod Ways
+pub mod Plans
+-- The rules of specs/Claims.antt
+pub mod Rules
+pub mod TakenBlocks
+pub mod FormatCut
 pub mod Alike
 pub mod BootPlans
 pub mod Boot
+-- The marked examples by computation
 pub mod Computing
 pub mod Marked

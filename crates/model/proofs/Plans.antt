@@ -1,70 +1,100 @@
 -- Every plan of a length change and of a write is made of good steps.
 use mathlib.Core.Path.{_≡_, refl, sym, ap, _∙_, subst}
-use mathlib.Core.Logic.{inl, inr}
-use mathlib.Core.Bool.{Bool, true, false, not, cond, _||_, false≢true}
+use mathlib.Core.Logic.{_↔_, inl, inr}
 use mathlib.Core.List.{List, [], _∷_, _++_, append-nil}
-use Prim.Native.Nat.{ℕ, zero, suc, _+_, _-_, _/_, _%_, _≤_, _<_, max}
+use Prim.Native.Nat.{ℕ, zero, suc, _+_, _-_, _*_, _/_, _%_, _≤_, _<_}
 use native.Mathlib.Omega.{arith}
-use native.Mathlib.Nat.{add-zero}
+use native.Mathlib.Nat.{add-zero, zero-add, sub-zero, mul-zero, mul-pos}
 use lib.ListN.{length, take, drop, replicate, take-append-drop}
 use lib.Seq.{take-all}
-use lib.Dec.{T, leb, eqb}
-use borrow.Author.Tests.{lt-ltb, le-ltb, le-leb, lt-leb, eq-eqb, ne-eqb, eqb-true}
-use Rattle.model.specs.declared.WalkEnd.{WalkEnd}
-use Rattle.model.specs.declared.WalkEnd.the-variants.{Block, Hole}
-use Rattle.model.specs.Lists.{tabulate, concat}
+use lib.Dec.{T}
+use borrow.Author.Tests.{lt-ltb, le-ltb, eq-eqb, ne-eqb}
+use Rattle.model.specs.Lists.{concat, sum}
 use Rattle.model.specs.Layout.{Layout, Fits, files}
-use Rattle.model.specs.Tree.{live, span, least}
-use Rattle.model.specs.Board.{greatest, rootAddress, sizeAddress, root, size, walkTo, contents, free, accepted}
+use Rattle.model.specs.Tree.{span, least}
+use Rattle.model.specs.Board.{greatest, rootAddress, sizeAddress, root, size, contents, liveBlocks, free, accepted}
 use Rattle.model.specs.Store.{Store, store, performed}
 use Rattle.model.specs.Plan.{Plan, plan, Step, step, planEpochs, afterwards}
+use Rattle.model.specs.Fresh.{stored}
+use Rattle.model.specs.InPlace.{inPlace}
+use Rattle.model.specs.Change.{growthTo, growth, singleBlock, chosenWay, writePlan, cleared, lengthPlan}
 use Rattle.model.specs.Calls.{lowest}
-use Rattle.model.specs.Fresh.{Page, stored, freshPointer}
-use Rattle.model.specs.InPlace.{atBlock, walkLive, tailPages, inPlace}
-use Rattle.model.specs.Change.{growthTo, growth, singleBlock, singleWord, isTail, emptyTail, tail, shadowInside, shadowWithLength, chosenWay, writePlan, cleared, lengthPlan}
-use Rattle.model.proofs.Cases.{split, decide, true-left, true-right}
-use Rattle.model.proofs.Perform.{length-tabulate}
+use Rattle.model.proofs.Cases.{split, decide}
+use Rattle.model.proofs.Counting.{occ}
+use Rattle.model.proofs.Perform.{All}
 use Rattle.model.proofs.Splice.{Small}
-use Rattle.model.proofs.Altering.{spliced-write, spliced-cut, spliced-zeros}
-use Rattle.model.proofs.Shown.{words-pos, rootByte, contents-bytes}
-use Rattle.model.proofs.Commits.{spliced}
+use Rattle.model.proofs.Built.{used, used-add}
+use Rattle.model.proofs.Shown.{words-pos, leaf-of, leaf-live, root-block, size-block}
+use Rattle.model.proofs.Supplied.{Supply, supply-lowest}
 use Rattle.model.proofs.Steps.{committed}
 use Rattle.model.proofs.GoodSteps.{GoodStep, GoodSteps}
-use Rattle.model.proofs.Supplied.{Supply, supply-lowest}
-use Rattle.model.proofs.InsideWays.{single-good, inside-good}
-use Rattle.model.proofs.LeafWay.{leaf-good}
-use Rattle.model.proofs.GrowthWay.{growthStep, growth-performed, growth-grows, growth-empty, growth-spanned, growth-good, growth-size, growth-reaches, growth-supply}
-use Rattle.model.proofs.SizeWays.{shorten-good, lengthen-empty-good, lengthen-good, tail-good, empty-tail-good}
+use Rattle.model.proofs.Taking.{Takes, blocksOf, takes-blocks, steps-blocks, in-place-live}
+use Rattle.model.proofs.SizeWays.{shorten-good, lengthen-empty-good, lengthen-good}
+use Rattle.model.proofs.GrowthWay.{growthStep, growth-performed, growth-takes, growth-counts, growth-grows, growth-empty, growth-spanned, growth-good, growth-size, growth-reaches, growth-supply}
+use Rattle.model.proofs.Ways.{length-contents, lengthened, spliced-cuts, spliced-lengthens, OneStep, way-good, taken-from}
 
--- ---- What a file reads as, as a list
+-- ---- Good plans
 
-module _ (g : Layout) (fit : Fits g) (b : List ℕ) (f : ℕ) where
-  bytes : ℕ → ℕ
-  bytes = rootByte (g .words) b (root g b f) (size g b f)
+-- Its steps are good, and of the blocks that are not live it stores to those that it takes, the first of the fresh ones, and to no other
+pub record GoodPlan (g : Layout) (b : List ℕ) (f : ℕ) (wanted : List ℕ) (p : Plan) : Type 0 where
+  pub steps-good : GoodSteps g b f (p .steps) wanted
+  pub takes : (q : ℕ) → occ q (liveBlocks g b) ≡ 0 → (0 < occ q (blocksOf g (concat (planEpochs (p .steps))))) ↔ (0 < used (lowest g b) q 0 (p .taken))
 
-  contents-are : contents g b f ≡ tabulate (size g b f) bytes
-  unfolding bytes
-  contents-are = contents-bytes g (words-pos g fit) b f
+-- a good step before good steps
+good-cons : (g : Layout) (b : List ℕ) (f : ℕ) (p : Step) (ps : List Step) (wanted : List ℕ) → GoodStep g b f p (contents g b f) → GoodSteps g (committed b p) f ps wanted → GoodSteps g b f (p ∷ ps) wanted
+unfolding GoodSteps
+good-cons g b f p [] wanted s e = rw (sym (s .outcome .reads) ∙ e) at s
+good-cons g b f p (q ∷ ps) wanted s e = (s, e)
 
-  pub length-contents : length (contents g b f) ≡ size g b f
-  length-contents = ap (λ (l : List ℕ). length l) contents-are ∙ length-tabulate (size g b f) bytes
+some-of-product : (w a u : ℕ) → 0 < w → a ≡ w * u → (0 < a) ↔ (0 < u)
+some-of-product w a u pos e = (λ l. elim (split u 0) [ inl z ↦ let z′ : u ≡ 0 = omega arith in absurd (omega (arith, rw z′ at e, mul-zero w)) | inr k ↦ k ], λ l. rw e (mul-pos pos l))
 
-  spliced-writes : (o : ℕ) (new : List ℕ) → o ≤ size g b f → (m : ℕ) → m ≡ max (size g b f) (o + length new)
-      → spliced g b f o new m ≡ take o (contents g b f) ++ new ++ drop (o + length new) (contents g b f)
-  unfolding bytes
-  spliced-writes o new l m e = rw (e, contents-are) (spliced-write (size g b f) bytes o new l)
+module _ (g : Layout) (fit : Fits g) (b : List ℕ) (f : ℕ) (wanted : List ℕ) where
+  -- how often one step stores to a block that is not live
+  one-blocks : (fresh : ℕ → ℕ) (c : ℕ) (p : Plan) → OneStep g b f fresh c wanted p → (q : ℕ) → occ q (liveBlocks g b) ≡ 0
+      → occ q (blocksOf g (concat (planEpochs (p .steps)))) ≡ g .words * used fresh q c (p .taken - c)
+  unfolding planEpochs concat occ
+  one-blocks fresh c p w q z = rw (w .steps-are) (omega (arith, steps-blocks g (words-pos g fit) fresh q (w .only) [], takes-blocks g (words-pos g fit) fresh q b c (p .taken) (w .only) (w .takes) z))
 
-  -- what a length change to n makes of it
-  lengthened : ℕ → List ℕ
-  lengthened n = take n (contents g b f) ++ replicate (n - length (contents g b f)) 0
+module _ (g : Layout) (fit : Fits g) (b : List ℕ) (f : ℕ) (wanted : List ℕ) where
+  pos : 0 < g .words
+  pos = words-pos g fit
 
-  spliced-cuts : (n : ℕ) → n ≤ size g b f → spliced g b f 0 [] n ≡ lengthened n
-  unfolding bytes lengthened
-  spliced-cuts n l = rw (length-contents, contents-are) (spliced-cut (size g b f) bytes n 0 l)
+  -- an empty plan
+  none-good : contents g b f ≡ wanted → GoodPlan g b f wanted (plan [] 0)
+  unfolding plan GoodSteps planEpochs concat occ used sum
+  none-good e = record { steps-good = e; takes = λ q z. (λ l. l, λ l. l) }
 
-  spliced-lengthens : (n : ℕ) → size g b f ≤ n → spliced g b f (size g b f) (replicate (n - size g b f) 0) n ≡ lengthened n
-  unfolding bytes lengthened
-  spliced-lengthens n l = rw (length-contents, contents-are) (spliced-zeros (size g b f) bytes n l)
+  one-plan : (p : Plan) → OneStep g b f (lowest g b) 0 wanted p → GoodPlan g b f wanted p
+  unfolding GoodSteps
+  one-plan p w = record {
+    steps-good = rw (w .steps-are) (w .good);
+    takes = λ q z. some-of-product (g .words) _ (used (lowest g b) q 0 (p .taken)) pos (rw sub-zero at (one-blocks g fit b f wanted (lowest g b) 0 p w q z));
+  }
+
+  -- a step that leaves the file as it reads and takes k blocks, and a plan of one step that takes the next
+  two-plan : (s : Step) (k : ℕ) → GoodStep g b f s (contents g b f) → Takes g b (lowest g b) 0 k s
+      → ((q : ℕ) → occ q (liveBlocks g (committed b s)) ≤ occ q (liveBlocks g b) + used (lowest g b) q 0 k)
+      → (p : Plan) → OneStep g (committed b s) f (lowest g b) k wanted p → k ≤ p .taken → GoodPlan g b f wanted (plan (s ∷ p .steps) (p .taken))
+  unfolding plan GoodSteps
+  two-plan s k first takes counts p w le = record {
+    steps-good = rw (w .steps-are) (first, w .good);
+    takes = λ q z.
+        let fresh : ℕ → ℕ = lowest g b in
+        let total : used fresh q 0 (p .taken) ≡ used fresh q 0 k + used fresh q k (p .taken - k) =
+        ap (used fresh q 0) (omega arith) ∙ used-add fresh q 0 k (p .taken - k) ∙ ap (λ (x : ℕ). used fresh q 0 k + used fresh q x (p .taken - k)) (zero-add k) in
+        let own : occ q (blocksOf g (s .hidden ++ (s .commit ∷ []))) ≡ g .words * used fresh q 0 k = rw sub-zero at (takes-blocks g pos fresh q b 0 k s takes z) in
+        let both = steps-blocks g pos fresh q s (p .steps) in
+        elim (split (used fresh q 0 k) 0) [
+          | inl none ↦
+              let zero-own : used fresh q 0 k ≡ 0 = omega arith in
+              let same : used fresh q 0 (p .taken) ≡ used fresh q k (p .taken - k) = omega (arith, total) in
+              let none-own : occ q (blocksOf g (s .hidden ++ (s .commit ∷ []))) ≡ 0 = own ∙ rw (zero-own, mul-zero (g .words)) in
+              some-of-product (g .words) _ (used fresh q 0 (p .taken)) pos
+              (rw same (omega (arith, both, none-own, one-blocks g fit (committed b s) f wanted fresh k p w q (omega (arith, counts q, z)))))
+          | inr more ↦ (λ l. omega (arith, total), λ l. omega (arith, both, own, mul-pos pos more))
+        ];
+  }
 
 -- ---- Length change
 
@@ -79,162 +109,46 @@ module _ (g : Layout) (fit : Fits g) (b : List ℕ) (t : T (accepted g b)) (f : 
   cleared-live zero l = absurd (omega arith)
   cleared-live (suc s) l = refl
 
-  -- n > s
-  lengthen-step : size g b f ≤ n → GoodStep g b f (step (cleared g b f (size g b f) n) (sizeAddress g b f) n) (lengthened g fit b f n)
-  lengthen-step more = rw (← (spliced-lengthens g fit b f n more)) (elim (split (size g b f) 0) [
-    | inl z ↦ let e : size g b f ≡ 0 = omega arith in rw (cleared-empty (size g b f) e) (lengthen-empty-good g fit b t f f-lt n e most)
-    | inr l ↦ rw (cleared-live (size g b f) l) (lengthen-good g fit b t f f-lt n l more most)
-  ])
+  -- a step of stores to live blocks, committed by the size
+  sized-plan : (ss : List Store) → All (λ s. 0 < occ (s .at / g .words) (liveBlocks g b)) ss → GoodStep g b f (step ss (sizeAddress g b f) n) (lengthened g fit b f n)
+      → GoodPlan g b f (lengthened g fit b f n) (plan (step ss (sizeAddress g b f) n ∷ []) 0)
+  unfolding plan step store stored
+  sized-plan ss lives s = one-plan g fit b f (lengthened g fit b f n) (plan (step ss (sizeAddress g b f) n ∷ []) 0) (record {
+    only = step ss (sizeAddress g b f) n;
+    steps-are = refl;
+    good = s;
+    takes = record { pages = []; others = ss; is = refl; count = refl; others-live = lives; commit-live = rw (size-block g fit b f) (leaf-live g b (f / g .inodes) (leaf-of g fit f f-lt)) };
+  })
 
-  nothing : n ≡ size g b f → contents g b f ≡ take n (contents g b f) ++ replicate (n - length (contents g b f)) 0
+  -- n > s
+  lengthen-plan : size g b f ≤ n → GoodPlan g b f (lengthened g fit b f n) (plan (step (cleared g b f (size g b f) n) (sizeAddress g b f) n ∷ []) 0)
+  unfolding All store
+  lengthen-plan more = elim (split (size g b f) 0) [
+    | inl z ↦
+        let e : size g b f ≡ 0 = omega arith in
+        rw (cleared-empty (size g b f) e) (sized-plan _ (rw (root-block g fit b f) (leaf-live g b (f / g .inodes) (leaf-of g fit f f-lt)), tt)
+        (rw (spliced-lengthens g fit b f n more) at (lengthen-empty-good g fit b t f f-lt n e most)))
+    | inr l ↦ rw (cleared-live (size g b f) l) (sized-plan _
+        (in-place-live g b f f-lt (λ h k c. 0) (replicate (n - size g b f) 0) 0 l)
+        (rw (spliced-lengthens g fit b f n more) at (lengthen-good g fit b t f f-lt n l more most)))
+  ]
+
+  nothing : n ≡ size g b f → contents g b f ≡ lengthened g fit b f n
   nothing e =
       let z : n - length (contents g b f) ≡ 0 = omega (arith, length-contents g fit b f) in
       rw z (sym (take-all n (contents g b f) (omega (arith, length-contents g fit b f))) ∙ sym (append-nil (take n (contents g b f))))
 
-  pub length-good : GoodSteps g b f (lengthPlan g b f n .steps) (take n (contents g b f) ++ replicate (n - length (contents g b f)) 0)
-  unfolding lengthPlan plan GoodSteps lengthened
+  pub length-good : GoodPlan g b f (take n (contents g b f) ++ replicate (n - length (contents g b f)) 0) (lengthPlan g b f n)
+  unfolding lengthPlan All
   length-good = elim (decide n (size g b f)) [
-    | inl e ↦ rw (eq-eqb n (size g b f) e) (nothing e)
+    | inl e ↦ rw (eq-eqb n (size g b f) e) (none-good g fit b f (lengthened g fit b f n) (nothing e))
     | inr d ↦ elim (split (size g b f) n) [
-      | inl more ↦ rw (ne-eqb n (size g b f) d, le-ltb n (size g b f) more) (lengthen-step more)
-      | inr less ↦ rw (ne-eqb n (size g b f) d, lt-ltb n (size g b f) less) (rw (spliced-cuts g fit b f n (omega arith)) at (shorten-good g fit b t f f-lt n (omega arith) (omega arith)))
+      | inl more ↦ rw (ne-eqb n (size g b f) d, le-ltb n (size g b f) more) (lengthen-plan more)
+      | inr less ↦ rw (ne-eqb n (size g b f) d, lt-ltb n (size g b f) less) (sized-plan [] tt (rw (spliced-cuts g fit b f n (omega arith)) at (shorten-good g fit b t f f-lt n (omega arith) (omega arith))))
     ]
   ]
-
--- ---- Write: the way that follows growth
-
-module _ (g : Layout) (fit : Fits g) (b : List ℕ) (t : T (accepted g b)) (f : ℕ) (f-lt : f < files g) (o : ℕ) (new : List ℕ) (some : 0 < length new) (small : Small new)
-    (within : o ≤ size g b f) (most : o + length new ≤ greatest g) (reach : 0 < size g b f → o + length new ≤ span (g .words) (root g b f % g .words))
-    (fresh : ℕ → ℕ) (c lim : ℕ) (supply : Supply g b fresh c lim) where
-  abbrev wanted : List ℕ
-  wanted = take o (contents g b f) ++ new ++ drop (o + length new) (contents g b f)
-
-  -- a plan of one step that is good
-  abbrev Good : Plan → Type 0
-  Good p = p .taken ≤ lim → GoodSteps g b f (p .steps) wanted
-
-  -- one that leaves m bytes
-  one-good : (p : Step) (m : ℕ) → m ≡ max (size g b f) (o + length new) → GoodStep g b f p (spliced g b f o new m) → GoodSteps g b f (p ∷ []) wanted
-  unfolding GoodSteps
-  one-good p m e s = rw (spliced-writes g fit b f o new within m e) at s
-
-  -- 3: *e ≤ s, all bytes fall in one word and its data block exists*
-  single-parts : (K : ℕ) → singleBlock g b f o (o + length new) ≡ Block K → (o + length new ≤ size g b f) × (o / 8 ≡ (o + length new - 1) / 8) × (walkTo g b f o ≡ Block K)
-  unfolding singleBlock atBlock
-  single-parts K e = elim (split (o + length new) (size g b f)) [
-    | inl l ↦ elim (decide (o / 8) ((o + length new - 1) / 8)) [
-      | inl w ↦ (l, w, rw (le-leb (o + length new) (size g b f) l, eq-eqb (o / 8) ((o + length new - 1) / 8) w) at e)
-      | inr d ↦ absurd (false≢true (ap atBlock (rw (le-leb (o + length new) (size g b f) l, ne-eqb (o / 8) ((o + length new - 1) / 8) d) at e)))
-    ]
-    | inr m ↦ absurd (false≢true (ap atBlock (rw (lt-leb (o + length new) (size g b f) m) at e)))
-  ]
-
-  single-way : (K : ℕ) → singleBlock g b f o (o + length new) ≡ Block K → Good (singleWord g b f K o new c)
-  unfolding singleWord plan
-  single-way K e room =
-      let p = single-parts K e in
-      let l : o + length new ≤ size g b f = p .0 in
-      one-good _ (size g b f) (omega arith) (single-good g fit b t f f-lt o new some small l (reach (omega arith)) K (p .2) (p .1))
-
-  -- 4
-  tail-empty : (s : ℕ) → s ≡ 0 → tail g fresh b f s new c ≡ emptyTail g fresh b f new c
-  unfolding tail
-  tail-empty zero e = refl
-  tail-empty (suc s) e = absurd (omega arith)
-
-  -- the tail of a file of size s above 0
-  abbrev tailOf : ℕ → Plan
-  tailOf s =
-      let ps : List Page = tailPages (g .words) b fresh (root g b f % g .words) (root g b f / g .words) s new c in
-      let others : List Store = inPlace (g .words) b (λ h l i. freshPointer (g .words) fresh h 0 l i) (root g b f % g .words) (root g b f / g .words) s new c (rootAddress g b f) in
-      plan (step (stored (g .words) fresh ps c ++ others) (sizeAddress g b f) (s + length new) ∷ []) (c + length ps)
-
-  tail-live : (s : ℕ) → 0 < s → tail g fresh b f s new c ≡ tailOf s
-  unfolding tail
-  tail-live zero l = absurd (omega arith)
-  tail-live (suc s) l = refl
-
-  tail-parts : isTail g b f o ≡ true → (o ≡ size g b f) × (0 < size g b f → T (atBlock (walkLive (g .words) b (root g b f % g .words) (root g b f / g .words) (size g b f))))
-  unfolding isTail live
-  tail-parts e =
-      let path : Bool = atBlock (walkLive (g .words) b (root g b f % g .words) (root g b f / g .words) (size g b f)) in
-      let first : eqb o (size g b f) ≡ true = true-left (eqb o (size g b f)) (not (live (size g b f)) || path) e in
-      (eqb-true o (size g b f) first, λ l. passes (size g b f) path l (true-right (eqb o (size g b f)) (not (live (size g b f)) || path) e))
-    where
-      passes : (s : ℕ) (u : Bool) → 0 < s → (not (live s) || u) ≡ true → T u
-      passes zero u l z = absurd (omega arith)
-      passes (suc s) true l z = tt
-      passes (suc s) false l z = absurd (false≢true z)
-
-  empty-tail-way : size g b f ≡ 0 → o ≡ size g b f → Good (emptyTail g fresh b f new c)
-  unfolding emptyTail plan
-  empty-tail-way z e room = one-good _ (length new) (omega arith)
-      (rw e (empty-tail-good g fit b t f f-lt new some small fresh c lim supply z (omega arith) room))
-
-  live-tail-way : 0 < size g b f → o ≡ size g b f → T (atBlock (walkLive (g .words) b (root g b f % g .words) (root g b f / g .words) (size g b f))) → Good (tailOf (size g b f))
-  unfolding plan
-  live-tail-way l e path room = one-good _ (size g b f + length new) (omega arith)
-      (rw e (tail-good g fit b t f f-lt new some small fresh c lim supply l path (rw (← e) (reach l)) (rw (← e) most) room))
-
-  tail-way : isTail g b f o ≡ true → Good (tail g fresh b f (size g b f) new c)
-  tail-way e = elim (split (size g b f) 0) [
-    | inl z ↦ let z′ : size g b f ≡ 0 = omega arith in rw (tail-empty (size g b f) z′) (empty-tail-way z′ (tail-parts e .0))
-    | inr l ↦ rw (tail-live (size g b f) l) (live-tail-way l (tail-parts e .0) (tail-parts e .1 l))
-  ]
-
-  -- 5
-  inside-way : o + length new ≤ size g b f → Good (shadowInside g fresh b f o new c)
-  unfolding shadowInside plan
-  inside-way l room = one-good _ (size g b f) (omega arith) (inside-good g fit b t f f-lt o new some small l (reach (omega arith)) fresh c lim supply room)
-
-  -- 6
-  leaf-way : 0 < size g b f → size g b f < o + length new → Good (shadowWithLength g fresh b f o new c)
-  unfolding shadowWithLength plan
-  leaf-way l m room = one-good _ (max (size g b f) (o + length new)) refl (leaf-good g fit b t f f-lt o new some small l within m (reach l) most fresh c lim supply room)
-
-  -- whichever it is
-  not-tail : isTail g b f o ≡ false → size g b f < o + length new → 0 < size g b f
-  unfolding isTail live
-  not-tail e more = elim (split (size g b f) 0) [
-    | inl z ↦ let z′ : size g b f ≡ 0 = omega arith in let o′ : o ≡ 0 = omega arith in absurd (false≢true (sym (rw (z′, o′) at e)))
-    | inr l ↦ l
-  ]
-
-  pub way-good : (end : WalkEnd) → singleBlock g b f o (o + length new) ≡ end → Good (chosenWay g fresh b f end o new c)
-  unfolding chosenWay
-  way-good (Block K) e = single-way K e
-  way-good Hole e = by (isTail g b f o) refl
-    where
-      by : (u : Bool) → isTail g b f o ≡ u
-          → Good (cond u (tail g fresh b f (size g b f) new c) (cond (leb (o + length new) (size g b f)) (shadowInside g fresh b f o new c) (shadowWithLength g fresh b f o new c)))
-      by true z = tail-way z
-      by false z = elim (split (o + length new) (size g b f)) [
-        | inl l ↦ rw (le-leb (o + length new) (size g b f) l) (inside-way l)
-        | inr m ↦ rw (lt-leb (o + length new) (size g b f) m) (leaf-way (not-tail z m) m)
-      ]
-
--- each takes blocks from number c on
-taken-from : (g : Layout) (fresh : ℕ → ℕ) (b : List ℕ) (f : ℕ) (end : WalkEnd) (o : ℕ) (new : List ℕ) (c : ℕ) → c ≤ chosenWay g fresh b f end o new c .taken
-unfolding chosenWay singleWord emptyTail tail shadowInside shadowWithLength plan
-taken-from g fresh b f (Block K) o new c = omega arith
-taken-from g fresh b f Hole o new c = by (isTail g b f o) (leb (o + length new) (size g b f))
-  where
-    tails : (s : ℕ) → c ≤ tail g fresh b f s new c .taken
-    tails zero = omega arith
-    tails (suc s) = omega arith
-
-    by : (u v : Bool) → c ≤ cond u (tail g fresh b f (size g b f) new c) (cond v (shadowInside g fresh b f o new c) (shadowWithLength g fresh b f o new c)) .taken
-    by true v = tails (size g b f)
-    by false true = omega arith
-    by false false = omega arith
 
 -- ---- Write
-
--- a good step before good steps
-good-cons : (g : Layout) (b : List ℕ) (f : ℕ) (p : Step) (ps : List Step) (wanted : List ℕ) → GoodStep g b f p (contents g b f) → GoodSteps g (committed b p) f ps wanted → GoodSteps g b f (p ∷ ps) wanted
-unfolding GoodSteps
-good-cons g b f p [] wanted s e = rw (sym (s .outcome .reads) ∙ e) at s
-good-cons g b f p (q ∷ ps) wanted s e = (s, e)
 
 module _ (g : Layout) (fit : Fits g) (b : List ℕ) (t : T (accepted g b)) (f : ℕ) (f-lt : f < files g) (o : ℕ) (within : o ≤ size g b f) where
   abbrev fresh : ℕ → ℕ
@@ -248,19 +162,25 @@ module _ (g : Layout) (fit : Fits g) (b : List ℕ) (t : T (accepted g b)) (f : 
     abbrev after : Plan → Plan
     after p = let grown : List ℕ = performed b (concat (planEpochs (p .steps))) in afterwards p (chosenWay g fresh grown f (singleBlock g grown f o (o + length new)) o new (p .taken))
 
-    abbrev Wanted : Plan → Type 0
-    Wanted p = p .taken ≤ lim → GoodSteps g b f (p .steps) (take o (contents g b f) ++ new ++ drop (o + length new) (contents g b f))
-
-    no-growth : (0 < size g b f → o + length new ≤ span (g .words) (root g b f % g .words)) → Wanted (after (plan [] 0))
-    unfolding plan afterwards planEpochs concat performed
-    no-growth reach room = way-good g fit b t f f-lt o new some small within most reach fresh 0 lim (supply-lowest g b) (singleBlock g b f o (o + length new)) refl room
-
-    -- the way that follows, on a board c where the file reads the same
+    -- the way on board c, once k fresh blocks are taken
     abbrev way : List ℕ → ℕ → Plan
     way c k = chosenWay g fresh c f (singleBlock g c f o (o + length new)) o new k
 
+    abbrev wanted : List ℕ
+    wanted = take o (contents g b f) ++ new ++ drop (o + length new) (contents g b f)
+
+    abbrev Wanted : Plan → Type 0
+    Wanted p = p .taken ≤ lim → GoodPlan g b f wanted p
+
+    no-growth : (0 < size g b f → o + length new ≤ span (g .words) (root g b f % g .words)) → Wanted (after (plan [] 0))
+    unfolding plan afterwards planEpochs concat performed
+    no-growth reach room =
+        let w : OneStep g b f fresh 0 wanted (way b 0) = way-good g fit b t f f-lt o new some small within most reach fresh 0 lim (supply-lowest g b) (singleBlock g b f o (o + length new)) refl room in
+        one-plan g fit b f wanted (way b 0) w
+
+    -- the way that follows, on a board c where the file reads the same
     follows : (c : List ℕ) → T (accepted g c) → size g c f ≡ size g b f → contents g c f ≡ contents g b f → o + length new ≤ span (g .words) (root g c f % g .words)
-        → (k : ℕ) → Supply g c fresh k lim → way c k .taken ≤ lim → GoodSteps g c f (way c k .steps) (take o (contents g b f) ++ new ++ drop (o + length new) (contents g b f))
+        → (k : ℕ) → Supply g c fresh k lim → way c k .taken ≤ lim → OneStep g c f fresh k wanted (way c k)
     follows c u sizes reads reach k supply room = rw (← reads) (way-good g fit c u f f-lt o new some small (rw sizes within) most (λ l. reach) fresh k lim supply (singleBlock g c f o (o + length new)) refl room)
 
     grows : 0 < size g b f → span (g .words) (root g b f % g .words) < o + length new → Wanted (after (growthTo g fresh b f (least (g .words) (g .height) (o + length new))))
@@ -270,15 +190,16 @@ module _ (g : Layout) (fit : Fits g) (b : List ℕ) (t : T (accepted g b)) (f : 
         let p : Plan = growthTo g fresh b f (least (g .words) (g .height) e) in
         let g-step : Step = growthStep g fresh b f (least (g .words) (g .height) e) in
         let grown : List ℕ = performed b (concat (planEpochs (p .steps))) in
-        let wanted : List ℕ = take o (contents g b f) ++ new ++ drop e (contents g b f) in
         let enough : p .taken ≤ lim = omega (arith, room, taken-from g fresh grown f (singleBlock g grown f o e) o new (p .taken)) in
         let first : GoodStep g b f g-step (contents g b f) = growth-good g fit b t f f-lt l fresh lim (supply-lowest g b) e most more enough in
-        good-cons g b f g-step (way grown (p .taken) .steps) wanted first
-        (subst (λ (y : List ℕ). way y (p .taken) .taken ≤ lim → GoodSteps g (committed b g-step) f (way y (p .taken) .steps) wanted)
+        let w : OneStep g (committed b g-step) f fresh (p .taken) wanted (way grown (p .taken)) =
+        subst (λ (y : List ℕ). way y (p .taken) .taken ≤ lim → OneStep g (committed b g-step) f fresh (p .taken) wanted (way y (p .taken)))
         (sym (growth-performed g fresh b f (least (g .words) (g .height) e)))
         (follows (committed b g-step) (first .outcome .board) (growth-size g fit b t f f-lt l fresh lim (supply-lowest g b) e most more enough) (first .outcome .reads)
         (growth-reaches g fit b t f f-lt l fresh lim (supply-lowest g b) e most more enough) (p .taken) (growth-supply g fit b t f f-lt l fresh lim (supply-lowest g b) e most more enough))
-        room)
+        room in
+        two-plan g fit b f wanted g-step (p .taken) first (growth-takes g fit fresh b f (least (g .words) (g .height) e) f-lt)
+        (growth-counts g fit b t f f-lt l fresh lim (supply-lowest g b) e most more enough) (way grown (p .taken)) w (taken-from g fresh grown f (singleBlock g grown f o e) o new (p .taken))
 
     pub write-some : Wanted (after (growth g fresh b f (o + length new)))
     write-some = elim (split (size g b f) 0) [
@@ -290,7 +211,7 @@ module _ (g : Layout) (fit : Fits g) (b : List ℕ) (t : T (accepted g b)) (f : 
     ]
 
   pub write-good : (new : List ℕ) → Small new → o + length new ≤ greatest g → writePlan g (lowest g b) b f o new .taken ≤ length (free g b)
-      → GoodSteps g b f (writePlan g (lowest g b) b f o new .steps) (take o (contents g b f) ++ new ++ drop (o + length new) (contents g b f))
-  unfolding writePlan plan GoodSteps
-  write-good [] small most room = rw (add-zero o, append-nil (take o (contents g b f))) (sym (take-append-drop o (contents g b f)))
+      → GoodPlan g b f (take o (contents g b f) ++ new ++ drop (o + length new) (contents g b f)) (writePlan g (lowest g b) b f o new)
+  unfolding writePlan plan
+  write-good [] small most room = none-good g fit b f _ (rw (add-zero o, append-nil (take o (contents g b f))) (sym (take-append-drop o (contents g b f))))
   write-good (x ∷ new) small most room = write-some (x ∷ new) (omega arith) small most room

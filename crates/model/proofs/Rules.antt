@@ -7,20 +7,20 @@ use native.Mathlib.Omega.{arith}
 use lib.ListN.{length, length-set}
 use lib.Dec.{T, leb, ltb, ltb→lt}
 use borrow.Author.Tests.{leb-false, ltb-false}
-use Rattle.model.specs.declared.Fault.{Fault}
-use Rattle.model.specs.declared.Fault.the-variants.{FileNumber, Offset, End, FreeBlocks}
-use Rattle.model.specs.declared.Answer.{Answer}
 use Rattle.model.specs.declared.Answer.the-variants.{Done, Refused}
+use Rattle.model.specs.declared.Answer.{Answer}
+use Rattle.model.specs.declared.Fault.the-variants.{FileNumber, Offset, End, FreeBlocks}
+use Rattle.model.specs.declared.Fault.{Fault}
 use Rattle.model.specs.Lists.{all, filter, concat, member, distinct}
 use Rattle.model.specs.Layout.{Layout, Fits, files}
 use Rattle.model.specs.Board.{greatest, size, contents, free, inRange, accepted}
-use Rattle.model.specs.Answers.{Faults, unlessRefused}
 use Rattle.model.specs.Store.{Store, performed, stores, epochs, fenced}
 use Rattle.model.specs.Hidden.{hidden}
 use Rattle.model.specs.Plan.{Step, stepEpochs, planEpochs, Plan, pairs}
-use Rattle.model.specs.Change.{writePlan, lengthPlan}
+use Rattle.model.specs.Change.{writePlan}
+use Rattle.model.specs.Answers.{Faults, unlessRefused}
 use Rattle.model.specs.Calls.{boardFaults, fileFaults, Planned, planned, lowest, writeFaults, write, setLength}
-use Rattle.model.specs.Cut.{Change, writing, lengthTo, fileOf, called, planOf, altered, after, Cut, Names, standing, lastArrived}
+use Rattle.model.specs.Cut.{Change, writing, lengthTo, fileOf, called, planOf, altered, after, Cut, Names, standing, lastArrived, planFor}
 use Rattle.model.specs.Claims.{Shaped, CutSafe, Altered, PlanRule, PowerCutRule, AccuracyRule}
 use Rattle.model.proofs.Cases.{and-left, and-right}
 use Rattle.model.proofs.Counting.{occ, occ-distinct}
@@ -33,8 +33,8 @@ use Rattle.model.proofs.Accepting.{Ranged, in-range, facts, address-on-
 use Rattle.model.proofs.HiddenStores.{hidden-in-range}
 use Rattle.model.proofs.Safety.{none-safe}
 use Rattle.model.proofs.Steps.{committed, allCommitted, SafeSteps, one-step, performed-steps, steps-rule, steps-altered}
-use Rattle.model.proofs.Plans.{write-good, length-good}
 use Rattle.model.proofs.GoodSteps.{GoodStep, good-safe, GoodSteps}
+use Rattle.model.proofs.Plans.{write-good, length-good, GoodPlan}
 
 -- ---- Good steps are safe, and leave the file reading as wanted
 
@@ -145,22 +145,20 @@ bytes-small [] t i = omega arith
 bytes-small (x ∷ xs) t zero = ltb→lt x 256 (and-left (ltb x 256) (all (λ y. ltb y 256) xs) t)
 bytes-small (x ∷ xs) t (suc i) = bytes-small xs (and-right (ltb x 256) (all (λ y. ltb y 256) xs) t) i
 
--- the call is done, and its plan is that of steps which alter its file as it asks
+-- the call is done, and its plan alters its file as it asks
 pub record Doing (g : Layout) (b : List ℕ) (c : Change) (p : Planned) : Type 0 where
-  pub steps : List Step
   pub file-in : fileOf c < files g
-  pub good : GoodSteps g b (fileOf c) steps (altered c (contents g b (fileOf c)))
-  pub answers : p .answer ≡ Done (length (fenced (planEpochs steps)))
-  pub plans : planOf p ≡ fenced (planEpochs steps)
+  pub good : GoodPlan g b (fileOf c) (altered c (contents g b (fileOf c))) (planFor g b c)
+  pub answers : p .answer ≡ Done (length (pairs (planFor g b c)))
+  pub plans : planOf p ≡ pairs (planFor g b c)
 
--- so it is, or refused, where the plan that it lays out has such steps once no fault was found
-doing-either : (g : Layout) (b : List ℕ) (c : Change) (faults : Faults) (q : Plan) (slice : List ℕ)
-    → (All Passed faults → (fileOf c < files g) × GoodSteps g b (fileOf c) (q .steps) (altered c (contents g b (fileOf c))))
-    → let p : Planned = planned faults (pairs q) slice in
+-- so it is, or refused, where its plan is good once no fault was found
+doing-either : (g : Layout) (b : List ℕ) (c : Change) (faults : Faults) (slice : List ℕ)
+    → (All Passed faults → (fileOf c < files g) × GoodPlan g b (fileOf c) (altered c (contents g b (fileOf c))) (planFor g b c))
+    → let p : Planned = planned faults (pairs (planFor g b c)) slice in
     Doing g b c p ⊎ Refusing p
-unfolding pairs
-doing-either g b c faults q slice good = elim (planned-either faults (pairs q) slice) [
-  | inl d ↦ inl (record { steps = q .steps; file-in = good (d .passed) .0; good = good (d .passed) .1; answers = d .answers; plans = d .plans })
+doing-either g b c faults slice good = elim (planned-either faults (pairs (planFor g b c)) slice) [
+  | inl d ↦ inl (record { file-in = good (d .passed) .0; good = good (d .passed) .1; answers = d .answers; plans = d .plans })
   | inr r ↦ inr r
 ]
 
@@ -180,12 +178,12 @@ after-refused c before e = rw e
 pub call-either : (g : Layout) → Fits g → (b : List ℕ) → T (accepted g b) → (c : Change) (slice : List ℕ)
     → let p : Planned = called g b c slice in
     Doing g b c p ⊎ Refusing p
-unfolding called write setLength writeFaults fileOf altered All
+unfolding called write setLength writeFaults fileOf altered planFor All
 call-either g fit b t (writing f o new) slice =
     let q : Plan = writePlan g (lowest g b) b f o (new .values) in
     let e : ℕ = o + length (new .values) in
     let own : Faults = (Offset, ltb (size g b f) o) ∷ (End, ltb (greatest g) e) ∷ (FreeBlocks, ltb (length (free g b)) (q .taken)) ∷ [] in
-    doing-either g b (writing f o new) (fileFaults g b f ++ own) q slice (λ h.
+    doing-either g b (writing f o new) (fileFaults g b f ++ own) slice (λ h.
     let file : f < files g = file-passed g b f (all-left Passed (fileFaults g b f) own h) in
     let rest : All Passed own = all-right Passed (fileFaults g b f) own h in (
       file,
@@ -193,33 +191,33 @@ call-either g fit b t (writing f o new) slice =
     ))
 call-either g fit b t (lengthTo f n) slice =
     let own : Faults = (End, ltb (greatest g) n) ∷ [] in
-    doing-either g b (lengthTo f n) (fileFaults g b f ++ own) (lengthPlan g b f n) slice (λ h.
+    doing-either g b (lengthTo f n) (fileFaults g b f ++ own) slice (λ h.
     let file : f < files g = file-passed g b f (all-left Passed (fileFaults g b f) own h) in
     (file, length-good g fit b t f file n (ltb-false (greatest g) n (all-right Passed (fileFaults g b f) own h .0))))
 
 pub power-cut-rule : PowerCutRule
-unfolding epochs
+unfolding epochs pairs
 power-cut-rule g fit b t c slice x =
     let before : List ℕ = contents g b (fileOf c) in
     elim (call-either g fit b t c slice) [
-      | inl d ↦ rw (after-done c before (d .answers), d .plans) (plan-cut g fit b t (fileOf c) (d .steps) (altered c before) (d .good) (d .file-in) x)
+      | inl d ↦ rw (after-done c before (d .answers), d .plans) (plan-cut g fit b t (fileOf c) (planFor g b c .steps) (altered c before) (d .good .steps-good) (d .file-in) x)
       | inr r ↦ rw (after-refused c before (r .answers), r .plans) (λ l. none-safe [] refl b g t (fileOf c) x (lastArrived [] x))
     ]
 
 pub accuracy-rule : AccuracyRule
-unfolding performed stores filter
+unfolding performed stores filter pairs
 accuracy-rule g fit b t c slice =
     let before : List ℕ = contents g b (fileOf c) in
     elim (call-either g fit b t c slice) [
-      | inl d ↦ rw (after-done c before (d .answers), d .plans) (plan-altered g fit b t (fileOf c) (d .steps) (altered c before) (d .good))
+      | inl d ↦ rw (after-done c before (d .answers), d .plans) (plan-altered g fit b t (fileOf c) (planFor g b c .steps) (altered c before) (d .good .steps-good))
       | inr r ↦ rw (after-refused c before (r .answers), r .plans) record { board = t; file = refl; others = λ e l n. refl }
     ]
 
 pub plan-rule : PlanRule
-unfolding all stores filter
+unfolding all stores filter pairs
 plan-rule g fit b t c slice =
     let wanted : List ℕ = altered c (contents g b (fileOf c)) in
     elim (call-either g fit b t c slice) [
-      | inl d ↦ rw (d .plans) (plan-shaped g fit b t (fileOf c) (d .steps) wanted (d .good), plan-within g fit b t (fileOf c) (d .steps) wanted (d .good))
+      | inl d ↦ rw (d .plans) (plan-shaped g fit b t (fileOf c) (planFor g b c .steps) wanted (d .good .steps-good), plan-within g fit b t (fileOf c) (planFor g b c .steps) wanted (d .good .steps-good))
       | inr r ↦ rw (r .plans) (shaped-none, tt)
     ]

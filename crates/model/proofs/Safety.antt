@@ -17,9 +17,9 @@ use Rattle.model.specs.Hidden.{hidden}
 use Rattle.model.specs.Cut.{Cut, chosen, standing}
 use Rattle.model.specs.Safe.{left, SafePlan, decided}
 use Rattle.model.specs.Claims.{Shows, CutSafe, SafeRule}
-use Rattle.model.proofs.HiddenStores.{hidden-rule}
 use Rattle.model.proofs.Cases.{decide, split}
 use Rattle.model.proofs.Perform.{performed-append}
+use Rattle.model.proofs.HiddenStores.{hidden-rule}
 
 -- what does not change from one number to the next, from i to j
 unchanged : {A : Type 0} (r : ℕ → A) (i j : ℕ) → i ≤ j → ((k : ℕ) → i ≤ k → k < j → r (suc k) ≡ r k) → r j ≡ r i

@@ -22,10 +22,10 @@ use Rattle.model.proofs.Cases.{split, every-cong, tabulate-cong, joined
 use Rattle.model.proofs.Sums.{sum-at}
 use Rattle.model.proofs.Counting.{one, occ, one-same, occ-append, occ-joined, occ-tabulate}
 use Rattle.model.proofs.Spans.{child, span-pos}
+use Rattle.model.proofs.Perform.{address-block}
 use Rattle.model.proofs.Trees.{walk-dead}
 use Rattle.model.proofs.Walks.{block-pos, spanned-pos, span-blocks}
 use Rattle.model.proofs.Agree.{byteAt, spanByte, agree, seen-live, span-byte-in, span-byte-past, agree-blocks, agree-sound, agree-span-byte, blocks-none}
-use Rattle.model.proofs.Perform.{address-block}
 
 -- ---- what is seen of a byte is where the walk to it ends
 

@@ -20,17 +20,17 @@ use Rattle.model.specs.Fresh.{Page, splice, need, stored, freshPointer, 
 use Rattle.model.specs.InPlace.{atBlock, walkLive, tailNeed, tailPages, inPlace}
 use Rattle.model.proofs.Cases.{decide, or-right, some-at}
 use Rattle.model.proofs.Counting.{one, occ, one-same, one-other}
+use Rattle.model.proofs.Spans.{least-within, least-reaches}
 use Rattle.model.proofs.Perform.{All, all-append, address-block}
 use Rattle.model.proofs.Addresses.{addresses, addresses-away, Stands, all-map, all-left, all-right, occ-addresses-append, stored-once, held-of-all}
+use Rattle.model.proofs.Trees.{sound-null}
 use Rattle.model.proofs.Agree.{agree-away, agree-refl, agree-none}
 use Rattle.model.proofs.Splice.{Small, splice-none}
 use Rattle.model.proofs.Changed.{Changed, changed-to}
 use Rattle.model.proofs.Built.{used, length-build, build-changed}
 use Rattle.model.proofs.InPlaceStores.{in-place-hidden, in-place-once}
 use Rattle.model.proofs.Tailed.{zeros-replicate, splice-zeros, hole-changed, length-tail, tail-changed, length-changed}
-use Rattle.model.proofs.Trees.{sound-null}
 use Rattle.model.proofs.Shrunk.{shrink-changed}
-use Rattle.model.proofs.Spans.{least-within, least-reaches}
 use Rattle.model.proofs.Shown.{Same, words-pos, leaf-of, leaf-live, file-live, same-address, root-block, size-block}
 use Rattle.model.proofs.Accepting.{Facts, facts}
 use Rattle.model.proofs.Commits.{Had, had-blocks, Written, spliced, written-commit}

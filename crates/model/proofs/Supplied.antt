@@ -7,8 +7,8 @@ use native.Mathlib.Omega.{arith}
 use lib.ListN.{length}
 use lib.Dec.{T}
 use Rattle.model.specs.Layout.{Layout, Fits}
-use Rattle.model.specs.Board.{blockCount, liveBlocks, free}
 use Rattle.model.specs.Tree.{cell}
+use Rattle.model.specs.Board.{blockCount, liveBlocks, free}
 use Rattle.model.specs.Store.{performed}
 use Rattle.model.specs.Hidden.{hidden}
 use Rattle.model.specs.Fresh.{Page, stored}
@@ -16,8 +16,8 @@ use Rattle.model.specs.Calls.{lowest}
 use Rattle.model.proofs.Cases.{split}
 use Rattle.model.proofs.Counting.{occ}
 use Rattle.model.proofs.Perform.{All, performed-away, address-block, stored-blocks}
-use Rattle.model.proofs.Built.{used}
 use Rattle.model.proofs.Addresses.{all-map, addresses, used-none, used-once, stored-once}
+use Rattle.model.proofs.Built.{used}
 use Rattle.model.proofs.Shown.{Same, same-count, same-live}
 use Rattle.model.proofs.Census.{FreeBlock, free-at, free-rises, free-member}
 

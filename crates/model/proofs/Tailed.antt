@@ -19,13 +19,13 @@ use Rattle.model.proofs.Cases.{split, length-joined}
 use Rattle.model.proofs.Sums.{sum-cong, sum-next}
 use Rattle.model.proofs.Counting.{occ}
 use Rattle.model.proofs.Spans.{span-pos}
-use Rattle.model.proofs.Trees.{blocks-dead, sound-dead, blocks-null, sound-null, blocks-here, sound-here}
 use Rattle.model.proofs.Perform.{All}
+use Rattle.model.proofs.Addresses.{joined-at, Stands}
+use Rattle.model.proofs.Trees.{blocks-dead, sound-dead, blocks-null, sound-null, blocks-here, sound-here}
 use Rattle.model.proofs.Agree.{agree, byteAt-null, byteAt-past, byteAt-size, agree-byte, agree-none, agree-child, occ-node, sound-root, aligned-none, aligned-full, aligned-zero}
 use Rattle.model.proofs.Splice.{Small, Cover, splice-in, splice-left, splice-right, length-part, getD-part, small-part, inside, cover-child, choose-pos}
 use Rattle.model.proofs.Changed.{Changed, weaken, kept, node}
 use Rattle.model.proofs.Built.{held, used, used-add, length-build, held-joined, page-byte, build-changed}
-use Rattle.model.proofs.Addresses.{joined-at, Stands}
 
 -- ---- zeros
 

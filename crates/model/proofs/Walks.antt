@@ -3,11 +3,11 @@ use mathlib.Core.Path.{_≡_, refl, sym, _∙_}
 use mathlib.Core.Bool.{Bool, true, false}
 use mathlib.Core.List.{List, _++_}
 use Prim.Native.Nat.{ℕ, zero, suc, _+_, _-_, _*_, _/_, _%_, _^_, _≤_, _<_}
-use native.Mathlib.Nat.{div-div-eq-div-mul, mul-comm, mul-assoc, pow-succ', one-le-pow, mod-lt, div-lt-iff-lt-mul}
 use native.Mathlib.Omega.{arith}
-use lib.Arith.{mod-mul, digits-div}
+use native.Mathlib.Nat.{div-div-eq-div-mul, mul-comm, mul-assoc, pow-succ', one-le-pow, mod-lt, div-lt-iff-lt-mul}
 use lib.ListN.{take, drop}
 use lib.Seq.{take-at, drop-at}
+use lib.Arith.{mod-mul, digits-div}
 use lib.Dec.{ltb}
 use borrow.Author.Tests.{ltb-true, ltb-false, lt-ltb}
 use Rattle.model.specs.Lists.{tabulate}

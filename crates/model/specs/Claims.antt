@@ -3,18 +3,18 @@ use mathlib.Core.Path.{_≡_}
 use mathlib.Core.Logic.{_≢_, _⊎_, _↔_}
 use mathlib.Core.Bool.{Bool}
 use mathlib.Core.List.{List, [], map}
-use Prim.Native.Nat.{ℕ, _/_, _<_}
-use lib.ListN.{length, drop}
+use Prim.Native.Nat.{ℕ, _+_, _/_, _<_}
+use lib.ListN.{length, take, drop}
 use lib.Dec.{T, leb, ltb}
 use Rattle.model.specs.declared.Answer.the-variants.{Refused}
 use Rattle.model.specs.declared.Fault.the-variants.{Trailer}
-use Rattle.model.specs.Lists.{all, distinct}
+use Rattle.model.specs.Lists.{all, member, distinct}
 use Rattle.model.specs.Layout.{Layout, Fits, files}
-use Rattle.model.specs.Board.{trailer, walkTo, contents, liveBlocks, free, inRange, accepted, wordCountSound}
+use Rattle.model.specs.Board.{blockCount, trailer, walkTo, contents, liveBlocks, free, inRange, accepted, wordCountSound}
 use Rattle.model.specs.Store.{Store, performed, stores, epochs, fenced}
-use Rattle.model.specs.Calls.{checkAnswer, freeCountAnswer, sizeAnswer, readAnswer, readBuffer, Planned, format, performAnswer}
 use Rattle.model.specs.Hidden.{hidden}
-use Rattle.model.specs.Cut.{Change, fileOf, called, planOf, after, Cut, chosen, Names, standing, lastArrived}
+use Rattle.model.specs.Calls.{checkAnswer, freeCountAnswer, sizeAnswer, readAnswer, readBuffer, Planned, format, performAnswer}
+use Rattle.model.specs.Cut.{Change, fileOf, called, planFor, planOf, after, Cut, chosen, Names, standing, lastArrived}
 use Rattle.model.specs.Safe.{left, SafePlan, decided}
 
 -- ---- Plans
@@ -36,6 +36,16 @@ abbrev pub FormatPlanRule : Type 0
 FormatPlanRule = (g : Layout) → Fits g → (b : List ℕ) → T (wordCountSound g b) → (slice : List ℕ)
     → let ss : List Store = planOf (format g b slice) in
     Shaped ss × T (all (λ s. leb (g .words) (s .at)) (stores ss))
+
+-- Of the free blocks a plan stores to those that are *taken lowest number first*, as many as 7 counts, and to no other
+abbrev pub FreshRule : Type 0
+FreshRule = (g : Layout) → Fits g → (b : List ℕ) → T (accepted g b) → (c : Change) (slice : List ℕ)
+    → let ss : List Store = planOf (called g b c slice) in
+    0 < length ss → (k : ℕ) → T (member k (free g b)) → T (member k (map (λ s. s .at / g .words) (stores ss))) ↔ T (member k (take (planFor g b c .taken) (free g b)))
+
+-- the live blocks, the free blocks, block 0 and the trailer make B
+abbrev pub CensusRule : Type 0
+CensusRule = (g : Layout) → Fits g → (b : List ℕ) → T (accepted g b) → length (liveBlocks g b) + length (free g b) + 2 ≡ blockCount g b
 
 -- ---- Block 0: *what it holds decides no answer*; that *no plan stores to it* is in the rules above
 

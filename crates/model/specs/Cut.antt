@@ -9,9 +9,11 @@ use Rattle.model.specs.declared.Answer.{Answer}
 use Rattle.model.specs.Lists.{consIf, concat}
 use Rattle.model.specs.Words.{Bytes}
 use Rattle.model.specs.Layout.{Layout}
-use Rattle.model.specs.Answers.{unlessRefused, counted}
 use Rattle.model.specs.Store.{Store, performed, paired, epochs}
-use Rattle.model.specs.Calls.{Planned, write, setLength}
+use Rattle.model.specs.Plan.{Plan}
+use Rattle.model.specs.Change.{writePlan, lengthPlan}
+use Rattle.model.specs.Answers.{unlessRefused, counted}
+use Rattle.model.specs.Calls.{Planned, lowest, write, setLength}
 
 -- *both calls, all arguments*: bytes written to a file at an offset; a file's length set
 pub data Change : Type 0 where
@@ -27,6 +29,11 @@ fileOf (lengthTo f n) = f
 unfoldable pub called : Layout → List ℕ → Change → List ℕ → Planned
 called g b (writing f o new) slice = write g b f o (new .values) slice
 called g b (lengthTo f n) slice = setLength g b f n slice
+
+-- the plan that the call lays out where it is not refused
+unfoldable pub planFor : Layout → List ℕ → Change → Plan
+planFor g b (writing f o new) = writePlan g (lowest g b) b f o (new .values)
+planFor g b (lengthTo f n) = lengthPlan g b f n
 
 -- *The plan is as many pairs as the answer counts.*
 unfoldable pub planOf : Planned → List Store

@@ -1,0 +1,225 @@
+-- The ways of planning a write, 3 to 6 of document 01: whichever is chosen, its one step is good.
+use mathlib.Core.Path.{_≡_, refl, sym, ap, _∙_}
+use mathlib.Core.Logic.{inl, inr}
+use mathlib.Core.Bool.{Bool, true, false, not, cond, _||_, false≢true}
+use mathlib.Core.List.{List, [], _∷_, _++_, append-nil}
+use Prim.Native.Nat.{ℕ, zero, suc, _+_, _-_, _/_, _%_, _≤_, _<_, max}
+use native.Mathlib.Omega.{arith}
+use native.Mathlib.Nat.{add-zero}
+use lib.ListN.{length, take, drop, replicate}
+use lib.Dec.{T, leb, eqb}
+use borrow.Author.Tests.{le-leb, lt-leb, eq-eqb, ne-eqb, eqb-true}
+use Rattle.model.specs.declared.WalkEnd.the-variants.{Block, Hole}
+use Rattle.model.specs.declared.WalkEnd.{WalkEnd}
+use Rattle.model.specs.Lists.{tabulate}
+use Rattle.model.specs.Layout.{Layout, Fits, files}
+use Rattle.model.specs.Tree.{live, span}
+use Rattle.model.specs.Board.{greatest, leaf, rootAddress, sizeAddress, root, size, walkTo, contents, liveBlocks, accepted}
+use Rattle.model.specs.Store.{Store, store}
+use Rattle.model.specs.Plan.{Plan, plan, Step, step}
+use Rattle.model.specs.Fresh.{Page, stored, freshPointer}
+use Rattle.model.specs.InPlace.{atBlock, walkLive, tailPages, inPlace}
+use Rattle.model.specs.Change.{singleBlock, singleWord, isTail, emptyTail, tail, shadowInside, shadowWithLength, chosenWay}
+use Rattle.model.proofs.Cases.{split, decide, true-left, true-right}
+use Rattle.model.proofs.Counting.{occ}
+use Rattle.model.proofs.Perform.{All, length-tabulate}
+use Rattle.model.proofs.Altering.{spliced-write, spliced-cut, spliced-zeros}
+use Rattle.model.proofs.Splice.{Small}
+use Rattle.model.proofs.Shown.{words-pos, rootByte, contents-bytes, leaf-of, leaf-live, root-block, size-block}
+use Rattle.model.proofs.Commits.{spliced}
+use Rattle.model.proofs.Supplied.{Supply}
+use Rattle.model.proofs.GoodSteps.{GoodStep}
+use Rattle.model.proofs.Taking.{Takes, in-place-live}
+use Rattle.model.proofs.InsideWays.{single-live, single-good, inside-live, inside-good}
+use Rattle.model.proofs.SizeWays.{tail-good, empty-tail-good}
+use Rattle.model.proofs.LeafWay.{leaf-takes, leaf-good}
+
+-- ---- What a file reads as, as a list
+
+module _ (g : Layout) (fit : Fits g) (b : List ℕ) (f : ℕ) where
+  bytes : ℕ → ℕ
+  bytes = rootByte (g .words) b (root g b f) (size g b f)
+
+  contents-are : contents g b f ≡ tabulate (size g b f) bytes
+  unfolding bytes
+  contents-are = contents-bytes g (words-pos g fit) b f
+
+  pub length-contents : length (contents g b f) ≡ size g b f
+  length-contents = ap (λ (l : List ℕ). length l) contents-are ∙ length-tabulate (size g b f) bytes
+
+  pub spliced-writes : (o : ℕ) (new : List ℕ) → o ≤ size g b f → (m : ℕ) → m ≡ max (size g b f) (o + length new)
+      → spliced g b f o new m ≡ take o (contents g b f) ++ new ++ drop (o + length new) (contents g b f)
+  unfolding bytes
+  spliced-writes o new l m e = rw (e, contents-are) (spliced-write (size g b f) bytes o new l)
+
+  -- what a length change to n makes of it
+  abbrev pub lengthened : ℕ → List ℕ
+  lengthened n = take n (contents g b f) ++ replicate (n - length (contents g b f)) 0
+
+  pub spliced-cuts : (n : ℕ) → n ≤ size g b f → spliced g b f 0 [] n ≡ lengthened n
+  unfolding bytes
+  spliced-cuts n l = rw (length-contents, contents-are) (spliced-cut (size g b f) bytes n 0 l)
+
+  pub spliced-lengthens : (n : ℕ) → size g b f ≤ n → spliced g b f (size g b f) (replicate (n - size g b f) 0) n ≡ lengthened n
+  unfolding bytes
+  spliced-lengthens n l = rw (length-contents, contents-are) (spliced-zeros (size g b f) bytes n l)
+
+-- ---- The way that is chosen
+
+-- a plan of one step, which is good and takes fresh blocks from number c on
+pub record OneStep (g : Layout) (b : List ℕ) (f : ℕ) (fresh : ℕ → ℕ) (c : ℕ) (wanted : List ℕ) (p : Plan) : Type 0 where
+  pub only : Step
+  pub steps-are : p .steps ≡ only ∷ []
+  pub good : GoodStep g b f only wanted
+  pub takes : Takes g b fresh c (p .taken) only
+
+module _ (g : Layout) (fit : Fits g) (b : List ℕ) (t : T (accepted g b)) (f : ℕ) (f-lt : f < files g) (o : ℕ) (new : List ℕ) (some : 0 < length new) (small : Small new)
+    (within : o ≤ size g b f) (most : o + length new ≤ greatest g) (reach : 0 < size g b f → o + length new ≤ span (g .words) (root g b f % g .words))
+    (fresh : ℕ → ℕ) (c lim : ℕ) (supply : Supply g b fresh c lim) where
+  abbrev wanted : List ℕ
+  wanted = take o (contents g b f) ++ new ++ drop (o + length new) (contents g b f)
+
+  abbrev Good : Plan → Type 0
+  Good p = p .taken ≤ lim → OneStep g b f fresh c wanted p
+
+  -- one that leaves m bytes
+  one-good : (s : Step) (m c′ : ℕ) → m ≡ max (size g b f) (o + length new) → GoodStep g b f s (spliced g b f o new m) → Takes g b fresh c c′ s → OneStep g b f fresh c wanted (plan (s ∷ []) c′)
+  unfolding plan
+  one-good s m c′ e y k = record { only = s; steps-are = refl; good = rw (spliced-writes g fit b f o new within m e) at y; takes = k }
+
+  -- a word of the file's inode lies in a live block
+  inode-live-at : (a : ℕ) → a / g .words ≡ leaf g b (f / g .inodes) → 0 < occ (a / g .words) (liveBlocks g b)
+  inode-live-at a e = rw e (leaf-live g b (f / g .inodes) (leaf-of g fit f f-lt))
+
+  -- 3: *e ≤ s, all bytes fall in one word and its data block exists*
+  single-parts : (K : ℕ) → singleBlock g b f o (o + length new) ≡ Block K → (o + length new ≤ size g b f) × (o / 8 ≡ (o + length new - 1) / 8) × (walkTo g b f o ≡ Block K)
+  unfolding singleBlock atBlock
+  single-parts K e = elim (split (o + length new) (size g b f)) [
+    | inl l ↦ elim (decide (o / 8) ((o + length new - 1) / 8)) [
+      | inl w ↦ (l, w, rw (le-leb (o + length new) (size g b f) l, eq-eqb (o / 8) ((o + length new - 1) / 8) w) at e)
+      | inr d ↦ absurd (false≢true (ap atBlock (rw (le-leb (o + length new) (size g b f) l, ne-eqb (o / 8) ((o + length new - 1) / 8) d) at e)))
+    ]
+    | inr m ↦ absurd (false≢true (ap atBlock (rw (lt-leb (o + length new) (size g b f) m) at e)))
+  ]
+
+  single-way : (K : ℕ) → singleBlock g b f o (o + length new) ≡ Block K → Good (singleWord g b f K o new c)
+  unfolding singleWord plan step store stored All
+  single-way K e room =
+      let p = single-parts K e in
+      let l : o + length new ≤ size g b f = p .0 in
+      one-good _ (size g b f) c (omega arith) (single-good g fit b t f f-lt o new some small l (reach (omega arith)) K (p .2) (p .1)) (record {
+        pages = [];
+        others = [];
+        is = refl;
+        count = sym (add-zero c);
+        others-live = tt;
+        commit-live = single-live g fit b t f f-lt o new some small l (reach (omega arith)) K (p .2) (p .1);
+      })
+
+  -- 4
+  tail-empty : (s : ℕ) → s ≡ 0 → tail g fresh b f s new c ≡ emptyTail g fresh b f new c
+  unfolding tail
+  tail-empty zero e = refl
+  tail-empty (suc s) e = absurd (omega arith)
+
+  -- the tail of a file of size s above 0
+  abbrev tailOf : ℕ → Plan
+  tailOf s =
+      let ps : List Page = tailPages (g .words) b fresh (root g b f % g .words) (root g b f / g .words) s new c in
+      let others : List Store = inPlace (g .words) b (λ h l i. freshPointer (g .words) fresh h 0 l i) (root g b f % g .words) (root g b f / g .words) s new c (rootAddress g b f) in
+      plan (step (stored (g .words) fresh ps c ++ others) (sizeAddress g b f) (s + length new) ∷ []) (c + length ps)
+
+  tail-live : (s : ℕ) → 0 < s → tail g fresh b f s new c ≡ tailOf s
+  unfolding tail
+  tail-live zero l = absurd (omega arith)
+  tail-live (suc s) l = refl
+
+  tail-parts : isTail g b f o ≡ true → (o ≡ size g b f) × (0 < size g b f → T (atBlock (walkLive (g .words) b (root g b f % g .words) (root g b f / g .words) (size g b f))))
+  unfolding isTail live
+  tail-parts e =
+      let path : Bool = atBlock (walkLive (g .words) b (root g b f % g .words) (root g b f / g .words) (size g b f)) in
+      let first : eqb o (size g b f) ≡ true = true-left (eqb o (size g b f)) (not (live (size g b f)) || path) e in
+      (eqb-true o (size g b f) first, λ l. passes (size g b f) path l (true-right (eqb o (size g b f)) (not (live (size g b f)) || path) e))
+    where
+      passes : (s : ℕ) (u : Bool) → 0 < s → (not (live s) || u) ≡ true → T u
+      passes zero u l z = absurd (omega arith)
+      passes (suc s) true l z = tt
+      passes (suc s) false l z = absurd (false≢true z)
+
+  empty-tail-way : size g b f ≡ 0 → o ≡ size g b f → Good (emptyTail g fresh b f new c)
+  unfolding emptyTail plan step store All
+  empty-tail-way z e room = one-good _ (length new) _ (omega arith)
+      (rw e (empty-tail-good g fit b t f f-lt new some small fresh c lim supply z (omega arith) room))
+      (record { pages = _; others = _; is = refl; count = refl; others-live = (inode-live-at (rootAddress g b f) (root-block g fit b f), tt); commit-live = inode-live-at (sizeAddress g b f) (size-block g fit b f) })
+
+  live-tail-way : 0 < size g b f → o ≡ size g b f → T (atBlock (walkLive (g .words) b (root g b f % g .words) (root g b f / g .words) (size g b f))) → Good (tailOf (size g b f))
+  unfolding plan step store
+  live-tail-way l e path room = one-good _ (size g b f + length new) _ (omega arith)
+      (rw e (tail-good g fit b t f f-lt new some small fresh c lim supply l path (rw (← e) (reach l)) (rw (← e) most) room))
+      (record {
+        pages = _;
+        others = _;
+        is = refl;
+        count = refl;
+        others-live = in-place-live g b f f-lt (λ h l i. freshPointer (g .words) fresh h 0 l i) new c l;
+        commit-live = inode-live-at (sizeAddress g b f) (size-block g fit b f);
+      })
+
+  tail-way : isTail g b f o ≡ true → Good (tail g fresh b f (size g b f) new c)
+  tail-way e = elim (split (size g b f) 0) [
+    | inl z ↦ let z′ : size g b f ≡ 0 = omega arith in rw (tail-empty (size g b f) z′) (empty-tail-way z′ (tail-parts e .0))
+    | inr l ↦ rw (tail-live (size g b f) l) (live-tail-way l (tail-parts e .0) (tail-parts e .1 l))
+  ]
+
+  -- 5
+  inside-way : o + length new ≤ size g b f → Good (shadowInside g fresh b f o new c)
+  unfolding shadowInside plan step store All
+  inside-way l room = one-good _ (size g b f) _ (omega arith) (inside-good g fit b t f f-lt o new some small l (reach (omega arith)) fresh c lim supply room) (record {
+    pages = _;
+    others = [];
+    is = sym (append-nil _);
+    count = refl;
+    others-live = tt;
+    commit-live = inside-live g fit b t f f-lt o new some small l (reach (omega arith)) fresh c lim supply room;
+  })
+
+  -- 6
+  leaf-way : 0 < size g b f → size g b f < o + length new → Good (shadowWithLength g fresh b f o new c)
+  unfolding shadowWithLength plan
+  leaf-way l m room = one-good _ (max (size g b f) (o + length new)) _ refl (leaf-good g fit b t f f-lt o new some small l within m (reach l) most fresh c lim supply room) (leaf-takes g fresh b f o new c fit f-lt)
+
+  -- whichever it is
+  not-tail : isTail g b f o ≡ false → size g b f < o + length new → 0 < size g b f
+  unfolding isTail live
+  not-tail e more = elim (split (size g b f) 0) [
+    | inl z ↦ let z′ : size g b f ≡ 0 = omega arith in let o′ : o ≡ 0 = omega arith in absurd (false≢true (sym (rw (z′, o′) at e)))
+    | inr l ↦ l
+  ]
+
+  pub way-good : (end : WalkEnd) → singleBlock g b f o (o + length new) ≡ end → Good (chosenWay g fresh b f end o new c)
+  unfolding chosenWay
+  way-good (Block K) e = single-way K e
+  way-good Hole e = by (isTail g b f o) refl
+    where
+      by : (u : Bool) → isTail g b f o ≡ u
+          → Good (cond u (tail g fresh b f (size g b f) new c) (cond (leb (o + length new) (size g b f)) (shadowInside g fresh b f o new c) (shadowWithLength g fresh b f o new c)))
+      by true z = tail-way z
+      by false z = elim (split (o + length new) (size g b f)) [
+        | inl l ↦ rw (le-leb (o + length new) (size g b f) l) (inside-way l)
+        | inr m ↦ rw (lt-leb (o + length new) (size g b f) m) (leaf-way (not-tail z m) m)
+      ]
+
+-- each takes blocks from number c on
+pub taken-from : (g : Layout) (fresh : ℕ → ℕ) (b : List ℕ) (f : ℕ) (end : WalkEnd) (o : ℕ) (new : List ℕ) (c : ℕ) → c ≤ chosenWay g fresh b f end o new c .taken
+unfolding chosenWay singleWord emptyTail tail shadowInside shadowWithLength plan
+taken-from g fresh b f (Block K) o new c = omega arith
+taken-from g fresh b f Hole o new c = by (isTail g b f o) (leb (o + length new) (size g b f))
+  where
+    tails : (s : ℕ) → c ≤ tail g fresh b f s new c .taken
+    tails zero = omega arith
+    tails (suc s) = omega arith
+
+    by : (u v : Bool) → c ≤ cond u (tail g fresh b f (size g b f) new c) (cond v (shadowInside g fresh b f o new c) (shadowWithLength g fresh b f o new c)) .taken
+    by true v = tails (size g b f)
+    by false true = omega arith
+    by false false = omega arith
