@@ -4,9 +4,9 @@ use mathlib.Core.Path.{_≡_, refl, _∙_}
 use mathlib.Core.Bool.{Bool, true, false, cond}
 use mathlib.Core.List.{[], _∷_, _++_, append-nil}
 use Prim.Native.Nat.{ℕ}
-use Rattle.model.specs.declared.Answer.the-variants.{Done, Refused}
-use Rattle.model.specs.declared.Answer.{Answer}
 use Rattle.model.specs.declared.Fault.{Fault}
+use Rattle.model.specs.declared.Answer.{Answer}
+use Rattle.model.specs.declared.Answer.the-variants.{Done, Refused}
 use Rattle.model.specs.Answers.{Faults, answered, unlessRefused}
 
 asked-first : (fs more : Faults) (v n : ℕ) → answered (fs ++ more) n ≡ unlessRefused (answered fs v) (answered more n) (answered fs v)

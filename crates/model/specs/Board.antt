@@ -4,8 +4,8 @@ use mathlib.Core.List.{List, _∷_, _++_}
 use Prim.Native.Nat.{ℕ, zero, suc, _+_, _-_, _*_, _/_, _%_}
 use lib.ListN.{length, getD}
 use lib.Dec.{leb, ltb, eqb}
-use Rattle.model.specs.declared.WalkEnd.the-variants.{Hole}
 use Rattle.model.specs.declared.WalkEnd.{WalkEnd}
+use Rattle.model.specs.declared.WalkEnd.the-variants.{Hole}
 use Rattle.model.specs.Lists.{tabulate, joined, every, pickFrom, member, distinct}
 use Rattle.model.specs.Layout.{Layout, files}
 use Rattle.model.specs.Tree.{span, cell, walk, shown, blocks, sound}

@@ -5,8 +5,8 @@ use Prim.Native.Nat.{ℕ, _%_}
 use lib.ListN.{length}
 use lib.Dec.{eqb}
 use lib.IntN.{ℤ}
-use Rattle.model.specs.declared.Answer.{Answer}
 use Rattle.model.specs.declared.Fault.the-variants.{WordCount}
+use Rattle.model.specs.declared.Answer.{Answer}
 use Rattle.model.specs.Words.{wordsOf}
 use Rattle.model.specs.Layout.{Layout}
 use Rattle.model.specs.Board.{size}

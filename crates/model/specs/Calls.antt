@@ -5,16 +5,16 @@ use mathlib.Core.List.{List, [], _∷_, _++_}
 use Prim.Native.Nat.{ℕ, _+_, _-_, _*_, min}
 use lib.ListN.{length, getD, take, drop}
 use lib.Dec.{leb, ltb}
-use Rattle.model.specs.declared.Answer.{Answer}
 use Rattle.model.specs.declared.Fault.the-variants.{WordCount, Trailer, Damaged, FileNumber, Offset, End, FreeBlocks, PlanLength, PairCount, Address}
+use Rattle.model.specs.declared.Answer.{Answer}
 use Rattle.model.specs.Lists.{all}
 use Rattle.model.specs.Layout.{Layout, files}
 use Rattle.model.specs.Board.{greatest, size, contents, free, wordCountSound, trailerSound, treesSound}
+use Rattle.model.specs.Answers.{Faults, answered, unlessRefused}
 use Rattle.model.specs.Store.{Store, isBarrier, stores, performed, paired, laid}
 use Rattle.model.specs.Plan.{Plan, pairs}
 use Rattle.model.specs.Change.{writePlan, lengthPlan}
 use Rattle.model.specs.Format.{formatPlan}
-use Rattle.model.specs.Answers.{Faults, answered, unlessRefused}
 
 module _ (g : Layout) (b : List ℕ) where
   -- *1: word count.*

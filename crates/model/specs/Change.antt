@@ -5,8 +5,8 @@ use mathlib.Core.List.{List, [], _∷_, _++_}
 use Prim.Native.Nat.{ℕ, zero, suc, _+_, _-_, _*_, _/_, _%_, max}
 use lib.ListN.{length, getD, replicate}
 use lib.Dec.{leb, ltb, eqb}
-use Rattle.model.specs.declared.WalkEnd.the-variants.{Block, Hole}
 use Rattle.model.specs.declared.WalkEnd.{WalkEnd}
+use Rattle.model.specs.declared.WalkEnd.the-variants.{Block, Hole}
 use Rattle.model.specs.Lists.{tabulate, concat}
 use Rattle.model.specs.Words.{byteOf, wordOf}
 use Rattle.model.specs.Layout.{Layout}

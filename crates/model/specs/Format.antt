@@ -8,8 +8,8 @@ use Rattle.model.specs.Lists.{tabulate}
 use Rattle.model.specs.Layout.{Layout}
 use Rattle.model.specs.Board.{blockCount, trailerWord}
 use Rattle.model.specs.Store.{Store, store}
-use Rattle.model.specs.Plan.{Plan, plan, step}
 use Rattle.model.specs.Fresh.{Page, stored}
+use Rattle.model.specs.Plan.{Plan, plan, step}
 
 module _ (g : Layout) where
   -- *block 1 (pointers to 2 to 9)*; words past the inode pointers are 0
