@@ -1,25 +1,33 @@
--- Of the free blocks a plan stores to the lowest, as many as it takes, and to no other; and after it the live and the free blocks still make B.
+-- Fresh blocks. Of the free blocks a plan stores to the lowest, as many as it takes, and to no other; how many that is; and after it the live
+-- and the free blocks still make B.
 use mathlib.Core.Path.{_≡_, refl, _∙_, sym, ap}
 use mathlib.Core.Logic.{inl, inr, _↔_}
 use mathlib.Core.List.{List, [], _∷_}
-use Prim.Native.Nat.{ℕ, zero, suc, _+_, _<_}
+use Prim.Native.Nat.{ℕ, zero, suc, _+_, _-_, _*_, _/_, _%_, _<_}
 use native.Mathlib.Omega.{arith}
 use native.Mathlib.Nat.{zero-add}
 use lib.ListN.{length, getD, take, List·getD-eq-default}
 use lib.Seq.{take-all, take-suc}
 use lib.Dec.{T}
+use borrow.Author.Tests.{le-leb, lt-leb}
 use Rattle.model.specs.Lists.{concat, member, sum}
 use Rattle.model.specs.Layout.{Layout, Fits}
-use Rattle.model.specs.Board.{contents, free, accepted, liveBlocks, blockCount}
+use Rattle.model.specs.Tree.{span, least, cell}
+use Rattle.model.specs.Board.{contents, free, accepted, liveBlocks, blockCount, rootAddress, root, size}
 use Rattle.model.specs.Store.{Store, performed, stores}
-use Rattle.model.specs.Plan.{planEpochs, Plan, pairs}
+use Rattle.model.specs.Plan.{planEpochs, Plan, pairs, plan}
+use Rattle.model.specs.Fresh.{need}
+use Rattle.model.specs.InPlace.{tailNeed}
+use Rattle.model.specs.Change.{growthTo, emptyTail, tail, descend, shadowInside, shadowWithLength}
 use Rattle.model.specs.Calls.{lowest}
 use Rattle.model.specs.Cut.{Change, fileOf, called, planOf, altered, planFor}
 use Rattle.model.specs.Claims.{FreshRule}
 use Rattle.model.proofs.Cases.{split, is-true}
 use Rattle.model.proofs.Counting.{occ, member-none, member-some, one-other, occ-append}
 use Rattle.model.proofs.Perform.{length-performed}
-use Rattle.model.proofs.Built.{used}
+use Rattle.model.proofs.Built.{used, length-build}
+use Rattle.model.proofs.Tailed.{length-tail}
+use Rattle.model.proofs.Grown.{length-levels}
 use Rattle.model.proofs.Shown.{count-kept}
 use Rattle.model.proofs.Census.{census, member-free}
 use Rattle.model.proofs.Taking.{blocksOf}
@@ -64,3 +72,40 @@ pub census-after : (g : Layout) → Fits g → (b : List ℕ) → T (accepted g 
 census-after g fit b t c slice =
     let ss : List Store = stores (planOf (called g b c slice)) in
     census g fit (performed b ss) (accuracy-rule g fit b t c slice .board) ∙ count-kept g (performed b ss) b (length-performed b ss)
+
+-- ---- How many a way takes: a block for each level of growth, those that `need` counts on paths to written bytes, and one for a leaf
+
+descend-need : (W : ℕ) → 0 < W → (fresh : ℕ → ℕ) (b : List ℕ) (h k n o : ℕ) (new : List ℕ) (c a : ℕ) → (h′ : ℕ) × (o′ : ℕ) × (length (descend W fresh b h k n o new c a .pages) ≡ need W h′ o′ (length new))
+unfolding descend
+descend-need W pos fresh b zero k n o new c a = (0, o, length-build W pos b fresh 0 k n o new c)
+descend-need W pos fresh b (suc h) zero n o new c a = (suc h, o, length-build W pos b fresh (suc h) 0 n o new c)
+descend-need W pos fresh b (suc h) (suc k) n o new c a = elim (split (o % span W h + length new) (span W h)) [
+  | inl fits ↦ rw (le-leb (o % span W h + length new) (span W h) fits)
+      (descend-need W pos fresh b h (cell W b (suc k) (o / span W h) / W) (n - o / span W h * span W h) (o % span W h) new c (W * suc k + o / span W h))
+  | inr more ↦ rw (lt-leb (o % span W h + length new) (span W h) more) (suc h, o, length-build W pos b fresh (suc h) (suc k) n o new c)
+]
+
+module _ (g : Layout) (pos : 0 < g .words) (fresh : ℕ → ℕ) (b : List ℕ) (f : ℕ) where
+  pub growth-takes-levels : (h : ℕ) → 0 < root g b f / g .words → growthTo g fresh b f h .taken ≡ h - root g b f % g .words
+  unfolding growthTo plan
+  growth-takes-levels h there = length-levels (g .words) fresh (root g b f / g .words) (h - root g b f % g .words) there
+
+  module _ (new : List ℕ) (c : ℕ) where
+    pub empty-tail-needs : emptyTail g fresh b f new c .taken ≡ c + need (g .words) (least (g .words) (g .height) (length new)) 0 (length new)
+    unfolding emptyTail plan
+    empty-tail-needs = ap (λ (x : ℕ). c + x) (length-build (g .words) pos b fresh (least (g .words) (g .height) (length new)) 0 0 0 new c)
+
+    pub tail-needs : (s : ℕ) → tail g fresh b f (suc s) new c .taken ≡ c + tailNeed (g .words) (root g b f % g .words) (suc s) (length new)
+    unfolding tail plan
+    tail-needs s = ap (λ (x : ℕ). c + x) (length-tail (g .words) pos b fresh (root g b f % g .words) (root g b f / g .words) (suc s) new c)
+
+    -- for the tree under the word that commits
+    pub inside-needs : (o : ℕ) → (h′ : ℕ) × (o′ : ℕ) × (shadowInside g fresh b f o new c .taken ≡ c + need (g .words) h′ o′ (length new))
+    unfolding shadowInside plan
+    inside-needs o =
+        let d = descend-need (g .words) pos fresh b (root g b f % g .words) (root g b f / g .words) (size g b f) o new c (rootAddress g b f) in
+        (d .0, d .1, ap (λ (x : ℕ). c + x) (d .2))
+
+    pub leaf-needs : (o : ℕ) → shadowWithLength g fresh b f o new c .taken ≡ c + need (g .words) (root g b f % g .words) o (length new) + 1
+    unfolding shadowWithLength plan
+    leaf-needs o = ap (λ (x : ℕ). c + x + 1) (length-build (g .words) pos b fresh (root g b f % g .words) (root g b f / g .words) (size g b f) o new c)
