@@ -6,20 +6,18 @@ use mathlib.Core.List.{List, [], _∷_}
 use Prim.Native.Nat.{ℕ, zero, suc, _+_, _-_, _*_, _/_, _%_, _^_, _≤_, _<_}
 use native.Mathlib.Omega.{arith}
 use native.Mathlib.Nat.{mod-lt, div-add-mod', zero-div, zero-mod, mul-le-mul-right}
-use lib.ListN.{length, getD, set, length-set}
+use lib.ListN.{length, getD, set}
 use lib.Seq.{getD-set-same, getD-set-other, set-out}
 use lib.Dec.{T, ltb, lt→ltb, ltb→lt}
 use borrow.Author.Tests.{lt-ltb, le-ltb}
 use Rattle.model.specs.Lists.{sum}
 use Rattle.model.specs.Words.{byteOf}
 use Rattle.model.specs.Tree.{seen, span, aligned, cell, link, blocks, sound}
-use Rattle.model.specs.Store.{Store, performed}
 use Rattle.model.proofs.Cases.{split, decide, and-left, and-right, and-both, every-of, every-all, every-cong, joined-cong}
 use Rattle.model.proofs.Sums.{sum-at, sum-zero}
 use Rattle.model.proofs.Counting.{one, occ, one-same, occ-joined}
-use Rattle.model.proofs.Bytes.{byteOf-lt}
 use Rattle.model.proofs.Spans.{child, span-pos}
-use Rattle.model.proofs.Perform.{All, address-block}
+use Rattle.model.proofs.Perform.{address-block}
 use Rattle.model.proofs.Trees.{blocks-dead, blocks-null, sound-dead, sound-null, childBlocks}
 
 module _ (W : ℕ) where
@@ -95,11 +93,6 @@ module _ (W : ℕ) (pos : 0 < W) where
   unfolding byteAt
   byteAt-past b zero k n i l = seen-dead (n - i) _ (omega arith)
   byteAt-past b (suc h) k n i l = byteAt-past b h (link W b k (i / span W h) / W) (n - i / span W h * span W h) (i % span W h) (omega (arith, div-add-mod' i (span W h)))
-
-  pub byteAt-lt : (b : List ℕ) (h k n i : ℕ) → byteAt W b h k n i < 256
-  unfolding byteAt
-  byteAt-lt b zero k n i = seen-lt (n - i) _ 256 (byteOf-lt _ (i % 8))
-  byteAt-lt b (suc h) k n i = byteAt-lt b h _ _ _
 
   -- below both sizes the size does not matter
   pub byteAt-size : (b : List ℕ) (h k n m i : ℕ) → i < n → i < m → byteAt W b h k n i ≡ byteAt W b h k m i
@@ -253,16 +246,6 @@ module _ (W : ℕ) (pos : 0 < W) where
     subst (λ (w : ℕ). agree W c (set c a v) h (w / W) (n - j * span W h)) (p j l u .0)
         (dark-again b c a v h (link W b k j / W) (n - j * span W h) len (p j l u .1) (d j l u .1)),
   )
-
-  -- any stores that are dark one by one, in any order
-  pub dark-all : (b c : List ℕ) (h k n : ℕ) (ss : List Store) → length b ≡ length c → agree W b c h k n
-      → All (λ s. agree W b (set b (s .at) (s .value)) h k n) ss → agree W b (performed c ss) h k n
-  unfolding performed All
-  dark-all b c h k n [] len p d = p
-  dark-all b c h k n (s ∷ ss) len p d =
-      let c′ = set c (s .at) (s .value) in
-      dark-all b c′ h k n ss (len ∙ sym (length-set c (s .at) (s .value)))
-      (agree-trans b c c′ h k n p (dark-again b c (s .at) (s .value) h k n len p (d .0))) (d .1)
 
   -- ---- a tree by its children
 

@@ -50,10 +50,6 @@ module _ (g : Layout) (b : List ℕ) (once : (q : ℕ) → occ q (liveBlocks g b
   leaf-not-file l f u v = let q : ℕ = leaf g b l in
       omega (arith, once q, occ-live g b q, one-same q, sum-at (g .leaves) (λ i. one q (leaf g b i)) l u, sum-at (files g) (λ i. occ q (fileBlocks g b i)) f v)
 
-  pub inode-not-file : (f : ℕ) → f < files g → occ (inodeBlock g b) (fileBlocks g b f) ≡ 0
-  inode-not-file f v = let q : ℕ = inodeBlock g b in
-      omega (arith, once q, occ-live g b q, one-same q, sum-at (files g) (λ i. occ q (fileBlocks g b i)) f v)
-
 -- ---- Addresses
 
 module _ (g : Layout) (fit : Fits g) (b : List ℕ) (ok : Facts g b) where

@@ -1,6 +1,6 @@
 -- Growth: fresh blocks over a tree, one for each level. The first pointer of each leads to the block below it, the rest are 0. The grown tree is
 -- higher, so its bytes are compared by spanByte, which is 0 past the span.
-use mathlib.Core.Path.{_≡_, refl, sym, ap, _∙_, subst}
+use mathlib.Core.Path.{_≡_, sym, ap, _∙_, subst}
 use mathlib.Core.Logic.{inl, inr}
 use mathlib.Core.List.{List, [], _∷_}
 use Prim.Native.Nat.{ℕ, zero, suc, _+_, _-_, _*_, _/_, _%_, _≤_, _<_}
@@ -97,10 +97,6 @@ module _ (W : ℕ) (fresh : ℕ → ℕ) where
   unfolding levels
   length-levels zero d some = absurd (omega arith)
   length-levels (suc k) d some = length-tabulate d _
-
-  pub length-levels-null : (d : ℕ) → length (levels W fresh 0 d) ≡ 0
-  unfolding levels
-  length-levels-null d = refl
 
 module _ (W : ℕ) (pos : 0 < W) (b b′ : List ℕ) (top : ℕ) (fresh : ℕ → ℕ) (lim : ℕ) (nonzero : (i : ℕ) → i < lim → 0 < fresh i) (below : (i : ℕ) → i < lim → fresh i < top) where
   -- d blocks over block k, one after the other

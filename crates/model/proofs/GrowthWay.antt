@@ -52,10 +52,6 @@ module _ (g : Layout) (fresh : ℕ → ℕ) (b : List ℕ) (f h : ℕ) where
   abbrev pub growthStep : Step
   growthStep = step (stored (g .words) fresh growthPages 0) (rootAddress g b f) growthRoot
 
-  pub growth-one-step : growthTo g fresh b f h ≡ plan (growthStep ∷ []) (length growthPages)
-  unfolding growthTo
-  growth-one-step = refl
-
   -- and the board with its stores performed is the one with the step committed
   pub growth-performed : performed b (concat (planEpochs (growthTo g fresh b f h .steps))) ≡ committed b growthStep
   unfolding growthTo plan allCommitted

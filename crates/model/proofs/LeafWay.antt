@@ -14,9 +14,9 @@ use Rattle.model.specs.Tree.{span, cell}
 use Rattle.model.specs.Board.{rootBlocks, greatest, blockCount, trailer, inodeBlock, inodePointer, leaf, rootAddress, sizeAddress, root, size, fileBlocks, liveBlocks, inRange, leafSound, accepted}
 use Rattle.model.specs.Store.{Store, store, performed}
 use Rattle.model.specs.Hidden.{hidden}
-use Rattle.model.specs.Plan.{Step, step, plan}
+use Rattle.model.specs.Plan.{Step, step}
 use Rattle.model.specs.Fresh.{Page, need, stored, build}
-use Rattle.model.specs.Change.{leafPage, shadowWithLength}
+use Rattle.model.specs.Change.{leafPage}
 use Rattle.model.proofs.Cases.{decide, and-both}
 use Rattle.model.proofs.Counting.{one, occ}
 use Rattle.model.proofs.Perform.{All, address-block}
@@ -53,11 +53,6 @@ module _ (g : Layout) (fresh : ℕ → ℕ) (b : List ℕ) (f o : ℕ) (new : Li
   -- they are stored, then the inode pointer
   abbrev pub leafStep : Step
   leafStep = step (stored (g .words) fresh shadowPages c) (g .words * inodeBlock g b + f / g .inodes) (g .words * fresh (c + length treePages))
-
-  -- the plan is this step alone
-  pub leaf-plan : shadowWithLength g fresh b f o new c ≡ plan (leafStep ∷ []) (c + length treePages + 1)
-  unfolding shadowWithLength
-  leaf-plan = refl
 
   pub leaf-takes : Fits g → f < files g → Takes g b fresh c (c + length treePages + 1) leafStep
   unfolding step store All

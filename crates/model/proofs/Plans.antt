@@ -40,12 +40,6 @@ pub record GoodPlan (g : Layout) (b : List ℕ) (f : ℕ) (wanted : List ℕ) (p
   pub steps-good : GoodSteps g b f (p .steps) wanted
   pub takes : (q : ℕ) → occ q (liveBlocks g b) ≡ 0 → (0 < occ q (blocksOf g (concat (planEpochs (p .steps))))) ↔ (0 < used (lowest g b) q 0 (p .taken))
 
--- a good step before good steps
-good-cons : (g : Layout) (b : List ℕ) (f : ℕ) (p : Step) (ps : List Step) (wanted : List ℕ) → GoodStep g b f p (contents g b f) → GoodSteps g (committed b p) f ps wanted → GoodSteps g b f (p ∷ ps) wanted
-unfolding GoodSteps
-good-cons g b f p [] wanted s e = rw (sym (s .outcome .reads) ∙ e) at s
-good-cons g b f p (q ∷ ps) wanted s e = (s, e)
-
 some-of-product : (w a u : ℕ) → 0 < w → a ≡ w * u → (0 < a) ↔ (0 < u)
 some-of-product w a u pos e = (λ l. elim (split u 0) [ inl z ↦ let z′ : u ≡ 0 = omega arith in absurd (omega (arith, rw z′ at e, mul-zero w)) | inr k ↦ k ], λ l. rw e (mul-pos pos l))
 

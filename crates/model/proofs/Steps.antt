@@ -49,17 +49,9 @@ SafeSteps g b f [] = Unit
 SafeSteps g b f (p ∷ ps) = SafeStep g b f p × (0 < length ps → contents g (committed b p) f ≡ contents g b f) × SafeSteps g (committed b p) f ps
 
 module _ (g : Layout) (b : List ℕ) (f : ℕ) where
-  pub no-step : SafeSteps g b f []
-  unfolding SafeSteps
-  no-step = tt
-
   pub one-step : (p : Step) → SafeStep g b f p → SafeSteps g b f (p ∷ [])
   unfolding SafeSteps
   one-step p s = (s, λ l. absurd (omega arith), tt)
-
-  pub two-steps : (p q : Step) → SafeStep g b f p → contents g (committed b p) f ≡ contents g b f → SafeStep g (committed b p) f q → SafeSteps g b f (p ∷ q ∷ [])
-  unfolding SafeSteps
-  two-steps p q s e t = (s, λ l. e, (t, λ l. absurd (omega arith), tt))
 
 -- ---- The board that they leave
 

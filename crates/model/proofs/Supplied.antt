@@ -18,7 +18,6 @@ use Rattle.model.proofs.Counting.{occ}
 use Rattle.model.proofs.Perform.{All, performed-away, address-block, stored-blocks}
 use Rattle.model.proofs.Addresses.{all-map, addresses, used-none, used-once, stored-once}
 use Rattle.model.proofs.Built.{used}
-use Rattle.model.proofs.Shown.{Same, same-count, same-live}
 use Rattle.model.proofs.Census.{FreeBlock, free-at, free-rises, free-member}
 
 -- the blocks fresh i with i < lim differ and lie in 1 to B − 2; those with c ≤ i are not live
@@ -39,15 +38,6 @@ supply-lowest g b = record {
 }
 
 module _ (g : Layout) (b : List ℕ) (fresh : ℕ → ℕ) (c lim : ℕ) (ok : Supply g b fresh c lim) where
-  -- on a board that shows the same
-  pub supply-same : Fits g → (b′ : List ℕ) → Same g b b′ → Supply g b′ fresh c lim
-  supply-same fit b′ s = record {
-    nonzero = ok .nonzero;
-    below = λ i l. rw (← (same-count g fit b b′ s)) (ok .below i l);
-    apart = ok .apart;
-    spare = λ i u l. rw (← (same-live g fit b b′ s)) (ok .spare i u l);
-  }
-
   -- a live block is none of them
   pub supply-live : (q m : ℕ) → c + m ≤ lim → 0 < occ q (liveBlocks g b) → used fresh q c m ≡ 0
   supply-live q m room live = used-none fresh q c m (λ i u v e. omega (arith, ok .spare i u (omega arith), subst (λ (x : ℕ). 0 < occ x (liveBlocks g b)) e live))
