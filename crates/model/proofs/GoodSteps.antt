@@ -2,22 +2,25 @@
 -- reading as wanted and the others as before.
 use mathlib.Core.Path.{_≡_}
 use mathlib.Core.List.{List, [], _∷_}
-use Prim.Native.Nat.{ℕ, _/_, _≤_, _<_}
+use Prim.Native.Nat.{ℕ, _+_, _/_, _≤_, _<_}
 use native.Mathlib.Omega.{arith}
-use lib.ListN.{length}
+use lib.ListN.{length, set}
 use lib.Dec.{T}
 use Rattle.model.specs.Layout.{Layout, Fits}
-use Rattle.model.specs.Board.{contents, accepted}
+use Rattle.model.specs.Board.{contents, accepted, liveBlocks}
 use Rattle.model.specs.Store.{Store, performed}
 use Rattle.model.specs.Hidden.{hidden}
 use Rattle.model.specs.Plan.{Step}
+use Rattle.model.specs.Fresh.{Page, stored}
 use Rattle.model.proofs.Counting.{occ}
 use Rattle.model.proofs.Perform.{All}
-use Rattle.model.proofs.Addresses.{addresses, Stands, all-map, all-holds, performed-holds}
+use Rattle.model.proofs.Addresses.{addresses, Stands, all-map, all-holds, performed-holds, stands-set, held-of-all}
+use Rattle.model.proofs.Built.{held}
 use Rattle.model.proofs.Shown.{Same}
 use Rattle.model.proofs.Accepting.{Ranged, facts, address-on-board}
 use Rattle.model.proofs.Commits.{Outcome}
 use Rattle.model.proofs.HiddenStores.{hidden-in-range, hidden-all-same}
+use Rattle.model.proofs.Supplied.{Supply, stored-hidden, stored-apart, stored-not-live}
 use Rattle.model.proofs.Steps.{committed, SafeStep}
 
 pub record GoodStep (g : Layout) (b : List ℕ) (f : ℕ) (p : Step) (wanted : List ℕ) : Type 0 where
@@ -44,3 +47,21 @@ module _ (g : Layout) (fit : Fits g) (b : List ℕ) (t : T (accepted g b)) (ss :
   pub epoch-stands : ((x : ℕ) → occ x (addresses ss) ≤ 1) → Stands (performed b ss) ss
   epoch-stands once = performed-holds b ss once (all-map (λ s. T (hidden g b s)) (λ s. s .at < length b)
       (λ s h. address-on-board g fit b (facts g fit b t .sizes) (s .at) (omega (arith, hidden-in-range g fit b t s h .1))) ss hides)
+
+-- of pages stored to fresh blocks
+module _ (g : Layout) (fit : Fits g) (b : List ℕ) (t : T (accepted g b)) (fresh : ℕ → ℕ) (c lim : ℕ) (supply : Supply g b fresh c lim) (ps : List Page) (room : c + length ps ≤ lim) where
+  pub pages-hidden : All (λ s. T (hidden g b s)) (stored (g .words) fresh ps c)
+  pages-hidden = stored-hidden g b fresh c lim supply fit ps room
+
+  pub pages-once : (x : ℕ) → occ x (addresses (stored (g .words) fresh ps c)) ≤ 1
+  pages-once = stored-apart g b fresh c lim supply ps room
+
+  pub pages-same : Same g b (performed b (stored (g .words) fresh ps c))
+  pages-same = epoch-same g fit b t (stored (g .words) fresh ps c) pages-hidden
+
+  -- the board holds them, also after a store to a live block
+  pub pages-held : (a v : ℕ) → 0 < occ (a / g .words) (liveBlocks g b) → held (g .words) fresh (set (performed b (stored (g .words) fresh ps c)) a v) ps c
+  pages-held a v live =
+      let ss : List Store = stored (g .words) fresh ps c in
+      held-of-all (g .words) fresh (set (performed b ss) a v) ps c
+      (stands-set (performed b ss) ss a v (stored-not-live g b fresh c lim supply ps room a live) (epoch-stands g fit b t ss pages-hidden pages-once))

@@ -15,7 +15,6 @@ use Rattle.model.specs.Layout.{Layout, Fits, files}
 use Rattle.model.specs.Tree.{live, span, least}
 use Rattle.model.specs.Board.{rootBlocks, greatest, blockCount, rootAddress, sizeAddress, root, size, contents, fileBlocks, liveBlocks, accepted}
 use Rattle.model.specs.Store.{Store, store, performed}
-use Rattle.model.specs.Hidden.{hidden}
 use Rattle.model.specs.Plan.{Step, step, plan, planEpochs}
 use Rattle.model.specs.Fresh.{Page, stored}
 use Rattle.model.specs.Change.{levels, levelTop, growthTo, growth}
@@ -23,7 +22,7 @@ use Rattle.model.proofs.Cases.{split}
 use Rattle.model.proofs.Counting.{occ}
 use Rattle.model.proofs.Spans.{span-mono, least-reaches, least-within}
 use Rattle.model.proofs.Perform.{All, address-block}
-use Rattle.model.proofs.Addresses.{addresses, stands-set, held-of-all, used-none}
+use Rattle.model.proofs.Addresses.{used-none}
 use Rattle.model.proofs.Agree.{agree, agree-away, agree-blocks, agree-trans}
 use Rattle.model.proofs.Built.{held, used}
 use Rattle.model.proofs.Grown.{Grown, grown}
@@ -32,9 +31,9 @@ use Rattle.model.proofs.Accepting.{accepted-parts, Facts, facts}
 use Rattle.model.proofs.Commits.{FileCommit, grown-commit}
 use Rattle.model.proofs.Apart.{Spot, leaf-not-file, spot-ranged, spot-live, spot-size, stored-root}
 use Rattle.model.proofs.Committing.{facts-same, spot-same, spot-commit, spot-counts}
-use Rattle.model.proofs.Supplied.{Supply, supply-once, stored-hidden, stored-apart, stored-not-live}
+use Rattle.model.proofs.Supplied.{Supply, supply-once}
 use Rattle.model.proofs.Steps.{committed, allCommitted, performed-steps}
-use Rattle.model.proofs.GoodSteps.{GoodStep, epoch-same, epoch-stands}
+use Rattle.model.proofs.GoodSteps.{GoodStep, pages-hidden, pages-once, pages-same, pages-held}
 use Rattle.model.proofs.Taking.{Takes}
 
 -- ---- The plan
@@ -134,18 +133,12 @@ module _ (g : Layout) (fit : Fits g) (b : List ℕ) (t : T (accepted g b)) (f : 
     abbrev ss : List Store
     ss = stored (g .words) fresh ps 0
 
-    hides : All (λ s. T (hidden g b s)) ss
-    hides = stored-hidden g b fresh 0 lim supply fit ps fits
-
-    once : (x : ℕ) → occ x (addresses ss) ≤ 1
-    once = stored-apart g b fresh 0 lim supply ps fits
-
     c₁ : List ℕ
     c₁ = performed b ss
 
     shown-same : Same g b c₁
     unfolding c₁
-    shown-same = epoch-same g fit b t ss hides
+    shown-same = pages-same g fit b t fresh 0 lim supply ps fits
 
     value : ℕ
     value = growthRoot g fresh b f h
@@ -163,10 +156,9 @@ module _ (g : Layout) (fit : Fits g) (b : List ℕ) (t : T (accepted g b)) (f : 
     commit-spot : Spot g fit c₁ (facts-same g fit b c₁ t shown-same) f f-lt (rootAddress g b f)
     commit-spot = spot-same g fit b c₁ t shown-same f f-lt (rootAddress g b f) lent-spot
 
-    pages-held : held (g .words) fresh done ps 0
+    held-done : held (g .words) fresh done ps 0
     unfolding done c₁
-    pages-held = held-of-all (g .words) fresh done ps 0 (stands-set c₁ ss (rootAddress g b f) value
-        (stored-not-live g b fresh 0 lim supply ps fits (rootAddress g b f) (spot-live g fit b ok f f-lt (rootAddress g b f) lent-spot)) (epoch-stands g fit b t ss hides once))
+    held-done = pages-held g fit b t fresh 0 lim supply ps fits (rootAddress g b f) value (spot-live g fit b ok f f-lt (rootAddress g b f) lent-spot)
 
     root-done : root g done f ≡ value
     unfolding done
@@ -202,7 +194,7 @@ module _ (g : Layout) (fit : Fits g) (b : List ℕ) (t : T (accepted g b)) (f : 
     tree-grown =
         let reached : root g b f % g .words + (h - root g b f % g .words) ≡ h = omega (arith, higher) in
         rw block-done (subst (λ (x : ℕ). Grown (g .words) b done (blockCount g b - 1) (root g b f % g .words) (root g b f / g .words) x top (size g b f) (λ q. used fresh q 0 (length ps))) reached
-        (grown (g .words) pos b done (blockCount g b - 1) fresh lim (supply .nonzero) (supply .below) (root g b f % g .words) (root g b f / g .words) (size g b f) (h - root g b f % g .words) (omega (arith, fits)) pages-held tree-stays))
+        (grown (g .words) pos b done (blockCount g b - 1) fresh lim (supply .nonzero) (supply .below) (root g b f % g .words) (root g b f / g .words) (size g b f) (h - root g b f % g .words) (omega (arith, fits)) held-done tree-stays))
 
     file-grown : FileCommit g b done f (contents g b f) (λ q. used fresh q 0 (length ps))
     file-grown = grown-commit g fit b done len f h (λ q. used fresh q 0 (length ps)) some size-done height-done low-enough tree-grown (accepted-parts g b t .files-sound f f-lt)
@@ -213,8 +205,8 @@ module _ (g : Layout) (fit : Fits g) (b : List ℕ) (t : T (accepted g b)) (f : 
     pub growth-good : GoodStep g b f (growthStep g fresh b f h) (contents g b f)
     unfolding step store committed done c₁ value
     growth-good = record {
-      hides = hides;
-      once = once;
+      hides = pages-hidden g fit b t fresh 0 lim supply ps fits;
+      once = pages-once g fit b t fresh 0 lim supply ps fits;
       within = spot-ranged g fit b ok f f-lt (rootAddress g b f) lent-spot;
       outcome = spot-commit g fit b c₁ t shown-same f f-lt (rootAddress g b f) value commit-spot (contents g b f) (λ q. used fresh q 0 (length ps)) file-grown met-once;
     }

@@ -14,16 +14,14 @@ use Rattle.model.specs.Layout.{Layout, Fits, files}
 use Rattle.model.specs.Tree.{span, cell, walk}
 use Rattle.model.specs.Board.{rootWalk, rootBlocks, blockCount, rootAddress, sizeAddress, root, size, walkTo, fileBlocks, liveBlocks, accepted}
 use Rattle.model.specs.Store.{Store, store, performed}
-use Rattle.model.specs.Hidden.{hidden}
 use Rattle.model.specs.Plan.{step}
 use Rattle.model.specs.Fresh.{splice, stored}
 use Rattle.model.specs.Change.{splicedWord, Shadow, descend}
 use Rattle.model.proofs.Cases.{decide}
 use Rattle.model.proofs.Counting.{occ}
 use Rattle.model.proofs.Perform.{All, address-block}
-use Rattle.model.proofs.Addresses.{addresses, stands-set, held-of-all}
 use Rattle.model.proofs.Splice.{Small, splice-right}
-use Rattle.model.proofs.Built.{held, used}
+use Rattle.model.proofs.Built.{used}
 use Rattle.model.proofs.Descent.{Replaced, walk-inside, word-changed, Committed, descend-inside, descend-low, descend-changed}
 use Rattle.model.proofs.Shown.{Same, words-pos, leaf-of, file-live, same-address, root-block}
 use Rattle.model.proofs.Accepting.{Facts, facts, address-on-board}
@@ -31,9 +29,9 @@ use Rattle.model.proofs.Visible.{same-refl}
 use Rattle.model.proofs.Commits.{Written, spliced, written-commit}
 use Rattle.model.proofs.Apart.{Spot, spot-ranged, spot-live, spot-root, spot-size, stored-root, leaf-not-file, tree-not-inode-of}
 use Rattle.model.proofs.Committing.{facts-same, spot-same, spot-commit}
-use Rattle.model.proofs.Supplied.{Supply, supply-once, stored-hidden, stored-apart, stored-not-live, stored-keeps}
+use Rattle.model.proofs.Supplied.{Supply, supply-once, stored-keeps}
 use Rattle.model.proofs.Steps.{committed}
-use Rattle.model.proofs.GoodSteps.{GoodStep, epoch-same, epoch-stands}
+use Rattle.model.proofs.GoodSteps.{GoodStep, pages-hidden, pages-once, pages-same, pages-held}
 
 -- a write that ends within the span is zero past it
 pub past-span : (o : ℕ) (new : List ℕ) (s m : ℕ) → o + length new ≤ s → (i : ℕ) → s ≤ i → i < m → splice o new 0 i ≡ 0
@@ -139,18 +137,12 @@ module _ (g : Layout) (fit : Fits g) (b : List ℕ) (t : T (accepted g b)) (f : 
       abbrev ss : List Store
       ss = stored (g .words) fresh (sh .pages) c
 
-      hides : All (λ s. T (hidden g b s)) ss
-      hides = stored-hidden g b fresh c lim supply fit (sh .pages) room
-
-      once : (x : ℕ) → occ x (addresses ss) ≤ 1
-      once = stored-apart g b fresh c lim supply (sh .pages) room
-
       c₁ : List ℕ
       c₁ = performed b ss
 
       shown-same : Same g b c₁
       unfolding c₁
-      shown-same = epoch-same g fit b t ss hides
+      shown-same = pages-same g fit b t fresh c lim supply (sh .pages) room
 
       value : ℕ
       value = g .words * top + low
@@ -165,6 +157,9 @@ module _ (g : Layout) (fit : Fits g) (b : List ℕ) (t : T (accepted g b)) (f : 
 
       lent-spot : Spot g fit b ok f f-lt (sh .at)
       lent-spot = elim place [ inl e ↦ inl (inl e) | inr z ↦ inr z ]
+
+      pub inside-live : 0 < occ (sh .at / g .words) (liveBlocks g b)
+      inside-live = spot-live g fit b ok f f-lt (sh .at) lent-spot
 
       commit-spot : Spot g fit c₁ (facts-same g fit b c₁ t shown-same) f f-lt (sh .at)
       commit-spot = spot-same g fit b c₁ t shown-same f f-lt (sh .at) lent-spot
@@ -184,11 +179,6 @@ module _ (g : Layout) (fit : Fits g) (b : List ℕ) (t : T (accepted g b)) (f : 
       words-stay : (q : ℕ) → 0 < occ q (fileBlocks g b f) → (j : ℕ) → j < g .words → g .words * q + j ≢ sh .at → cell (g .words) b q j ≡ cell (g .words) done q j
       unfolding done c₁ cell
       words-stay q live j l d = stored-keeps g b fresh c lim supply (sh .pages) room q (omega (arith, file-live g b f q f-lt)) j l ∙ sym (getD-set-other c₁ (sh .at) (g .words * q + j) value 0 d)
-
-      pages-held : held (g .words) fresh done (sh .pages) c
-      unfolding done c₁
-      pages-held = held-of-all (g .words) fresh done (sh .pages) c (stands-set c₁ ss (sh .at) value (stored-not-live g b fresh c lim supply (sh .pages) room (sh .at) (spot-live g fit b ok f f-lt (sh .at) lent-spot))
-          (epoch-stands g fit b t ss hides once))
 
       root-hit : sh .at ≡ rootAddress g b f → root g done f ≡ value
       unfolding done
@@ -229,13 +219,13 @@ module _ (g : Layout) (fit : Fits g) (b : List ℕ) (t : T (accepted g b)) (f : 
       ]
 
       ready : Committed (g .words) fresh b done c lim sh (root g b f % g .words) (root g b f / g .words) (size g b f) o (rootAddress g b f)
-      unfolding fileBlocks rootBlocks
+      unfolding fileBlocks rootBlocks done c₁
       ready = record {
         replaced = record { once = tree-once; same = words-stay };
         within = omega arith;
         under = omega arith;
         outside = rw (root-block g fit b f) (leaf-not-file g b (ok .once) (f / g .inodes) f (leaf-of g fit f f-lt) f-lt);
-        holds = pages-held;
+        holds = pages-held g fit b t fresh c lim supply (sh .pages) room (sh .at) value inside-live;
         room = room;
         value = ap (λ (x : ℕ). x / g .words) commits ∙ committed-block;
         low = λ d. ap (λ (x : ℕ). x % g .words) commits ∙ committed-low ∙ low-zero d;
@@ -255,14 +245,11 @@ module _ (g : Layout) (fit : Fits g) (b : List ℕ) (t : T (accepted g b)) (f : 
             (λ d. ap (λ (x : ℕ). x / g .words) (sym (root-else d)));
       }
 
-      pub inside-live : 0 < occ (sh .at / g .words) (liveBlocks g b)
-      inside-live = spot-live g fit b ok f f-lt (sh .at) lent-spot
-
       pub inside-good : GoodStep g b f (step ss (sh .at) (g .words * top + low)) (spliced g b f o new (size g b f))
       unfolding step store committed done c₁ value
       inside-good = record {
-        hides = hides;
-        once = once;
+        hides = pages-hidden g fit b t fresh c lim supply (sh .pages) room;
+        once = pages-once g fit b t fresh c lim supply (sh .pages) room;
         within = spot-ranged g fit b ok f f-lt (sh .at) lent-spot;
         outcome = spot-commit g fit b c₁ t shown-same f f-lt (sh .at) value commit-spot (spliced g b f o new (size g b f)) (λ q. used fresh q c (length (sh .pages)))
             (written-commit g fit b done len f (root g b f % g .words) (root g b f / g .words) o (size g b f) new (λ q. used fresh q c (length (sh .pages))) inside-written (ok .tree f f-lt))

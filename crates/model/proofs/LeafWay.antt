@@ -13,14 +13,12 @@ use Rattle.model.specs.Layout.{Layout, Fits, files}
 use Rattle.model.specs.Tree.{span, cell}
 use Rattle.model.specs.Board.{rootBlocks, greatest, blockCount, trailer, inodeBlock, inodePointer, leaf, rootAddress, sizeAddress, root, size, fileBlocks, liveBlocks, inRange, leafSound, accepted}
 use Rattle.model.specs.Store.{Store, store, performed}
-use Rattle.model.specs.Hidden.{hidden}
 use Rattle.model.specs.Plan.{Step, step}
 use Rattle.model.specs.Fresh.{Page, need, stored, build}
 use Rattle.model.specs.Change.{leafPage}
 use Rattle.model.proofs.Cases.{decide, and-both}
 use Rattle.model.proofs.Counting.{one, occ}
 use Rattle.model.proofs.Perform.{All, address-block}
-use Rattle.model.proofs.Addresses.{addresses, stands-set, held-of-all}
 use Rattle.model.proofs.Agree.{agree, frame, cell-away}
 use Rattle.model.proofs.Splice.{Small, Cover}
 use Rattle.model.proofs.Changed.{Changed}
@@ -29,9 +27,9 @@ use Rattle.model.proofs.Shown.{Same, words-pos, count-kept, inode-kept,
 use Rattle.model.proofs.Accepting.{Ranged, in-range, accepted-parts, Facts, facts, address-on-board}
 use Rattle.model.proofs.Commits.{Written, spliced, written-commit, Others, Outcome, one-file}
 use Rattle.model.proofs.Apart.{inode-not-leaf, file-not-inode, inodes-apart}
-use Rattle.model.proofs.Supplied.{Supply, supply-once, stored-hidden, stored-apart, stored-not-live, stored-keeps}
+use Rattle.model.proofs.Supplied.{Supply, supply-once, stored-keeps}
 use Rattle.model.proofs.Steps.{committed}
-use Rattle.model.proofs.GoodSteps.{GoodStep, epoch-same, epoch-stands}
+use Rattle.model.proofs.GoodSteps.{GoodStep, pages-hidden, pages-once, pages-same, pages-held}
 use Rattle.model.proofs.Taking.{Takes}
 use Rattle.model.proofs.InsideWays.{past-span}
 
@@ -137,12 +135,6 @@ module _ (g : Layout) (fit : Fits g) (b : List ℕ) (t : T (accepted g b)) (f : 
   pages-room : c + length pages ≤ lim
   pages-room = omega (arith, length-append ps (copy ∷ []))
 
-  hides : All (λ s. T (hidden g b s)) ss
-  hides = stored-hidden g b fresh c lim supply fit pages pages-room
-
-  once : (x : ℕ) → occ x (addresses ss) ≤ 1
-  once = stored-apart g b fresh c lim supply pages pages-room
-
   -- the board with the fresh blocks, and with the commit
   c₁ : List ℕ
   c₁ = performed b ss
@@ -152,7 +144,7 @@ module _ (g : Layout) (fit : Fits g) (b : List ℕ) (t : T (accepted g b)) (f : 
 
   shown-same : Same g b c₁
   unfolding c₁
-  shown-same = epoch-same g fit b t ss hides
+  shown-same = pages-same g fit b t fresh c lim supply pages pages-room
 
   len : length b ≡ length b₂
   unfolding b₂
@@ -216,17 +208,16 @@ module _ (g : Layout) (fit : Fits g) (b : List ℕ) (t : T (accepted g b)) (f : 
   ]
 
   -- the fresh blocks
-  pages-held : held (g .words) fresh b₂ pages c
+  all-held : held (g .words) fresh b₂ pages c
   unfolding b₂ c₁
-  pages-held = held-of-all (g .words) fresh b₂ pages c (stands-set c₁ ss a (g .words * copied)
-      (stored-not-live g b fresh c lim supply pages pages-room a (rw commit-block (inode-live g b))) (epoch-stands g fit b t ss hides once))
+  all-held = pages-held g fit b t fresh c lim supply pages pages-room a (g .words * copied) (rw commit-block (inode-live g b))
 
   tree-held : held (g .words) fresh b₂ ps c
-  tree-held = held-left (g .words) pos b fresh b₂ ps (copy ∷ []) c pages-held
+  tree-held = held-left (g .words) pos b fresh b₂ ps (copy ∷ []) c all-held
 
   copy-word : (j : ℕ) → j < g .words → cell (g .words) b₂ (leaf g b₂ l₀) j ≡ copy j
   unfolding held
-  copy-word j l = rw leaf-new (held-right (g .words) pos b fresh b₂ ps (copy ∷ []) c pages-held .0 j l)
+  copy-word j l = rw leaf-new (held-right (g .words) pos b fresh b₂ ps (copy ∷ []) c all-held .0 j l)
 
   -- the inodes
   root-new : root g b₂ f ≡ r
@@ -304,8 +295,8 @@ module _ (g : Layout) (fit : Fits g) (b : List ℕ) (t : T (accepted g b)) (f : 
   pub leaf-good : GoodStep g b f (leafStep g fresh b f o new c) (spliced g b f o new (max (size g b f) (o + length new)))
   unfolding step store committed b₂ c₁
   leaf-good = record {
-    hides = hides;
-    once = once;
+    hides = pages-hidden g fit b t fresh c lim supply pages pages-room;
+    once = pages-once g fit b t fresh c lim supply pages pages-room;
     within = rw commit-block (ok .inode);
     outcome = outcome;
   }
