@@ -10,12 +10,13 @@ use Rattle.model.specs.Lists.{joined, sum}
 use Rattle.model.specs.Words.{byteOf}
 use Rattle.model.specs.Tree.{seen, span, cell, link}
 use Rattle.model.specs.Fresh.{Page, splice, part, partLength, need, needBefore, dataPage, freshPointer, pointerPage, build}
+use Rattle.model.specs.Claims.{FreshBlockRule}
 use Rattle.model.proofs.Cases.{split, decide, length-joined}
 use Rattle.model.proofs.Sums.{sum-cong, sum-mono, sum-split}
 use Rattle.model.proofs.Counting.{one}
 use Rattle.model.proofs.Bytes.{byteOf-lt, byteOf-wordOf}
 use Rattle.model.proofs.Agree.{byteAt, agree, seen-live, seen-dead, seen-lt, link-cell, agree-child, occ-leaf, occ-beneath, sound-leaf, aligned-zero, aligned-full}
-use Rattle.model.proofs.Splice.{Small, Cover, length-part, small-part, cover-child, splice-small, choose-zero, choose-pos}
+use Rattle.model.proofs.Splice.{Small, Cover, length-part, small-part, cover-child, splice-small, choose-zero, choose-pos, splice-right, bytes-small}
 use Rattle.model.proofs.Changed.{Changed, weaken, kept, node}
 
 -- the board b holds pages from the fresh block number c on
@@ -36,15 +37,21 @@ module _ (fresh : ℕ → ℕ) where
   unfolding used sum
   used-one q c = zero-add _ ∙ ap (λ (x : ℕ). one q (fresh x)) (add-zero c)
 
--- byte i of a data block whose word there is the page's
+-- byte t of word j of a fresh data block
+pub data-page-byte : (W : ℕ) (b : List ℕ) (k n o : ℕ) (new : List ℕ) → Small new → (j t : ℕ) → t < 8
+    → byteOf (dataPage W b k n o new j) t ≡ splice o new (seen (n - (8 * j + t)) (byteOf (link W b k j) t)) (8 * j + t)
+unfolding dataPage
+data-page-byte W b k n o new small j t l = byteOf-wordOf 8 (λ i. splice o new (seen (n - (8 * j + i)) (byteOf (link W b k j) i)) (8 * j + i))
+    (λ i. splice-small o new _ (8 * j + i) small (seen-lt (n - (8 * j + i)) _ 256 (byteOf-lt (link W b k j) i))) t l
+
+-- the same of byte i of the block, the first m bytes of which lie below the new size
 pub page-byte : (W : ℕ) (pos : 0 < W) (b b′ : List ℕ) (k k′ n m o : ℕ) (new : List ℕ) → 0 < k′ → Small new → (i : ℕ) → i < m → cell W b′ k′ (i / 8) ≡ dataPage W b k n o new (i / 8)
     → byteAt W b′ zero k′ m i ≡ splice o new (byteAt W b zero k n i) i
-unfolding byteAt dataPage
+unfolding byteAt
 page-byte W pos b b′ k k′ n m o new there small i v word =
     seen-live (m - i) _ (omega arith)
     ∙ ap (λ (w : ℕ). byteOf w (i % 8)) (link-cell W pos b′ k′ (i / 8) there ∙ word)
-    ∙ byteOf-wordOf 8 (λ t. splice o new (seen (n - (8 * (i / 8) + t)) (byteOf (link W b k (i / 8)) t)) (8 * (i / 8) + t))
-    (λ t. splice-small o new _ (8 * (i / 8) + t) small (seen-lt (n - (8 * (i / 8) + t)) _ 256 (byteOf-lt (link W b k (i / 8)) t))) (i % 8) (omega arith)
+    ∙ data-page-byte W b k n o new small (i / 8) (i % 8) (omega arith)
     ∙ ap (λ (y : ℕ). splice o new (seen (n - y) (byteOf (link W b k (i / 8)) (i % 8))) y) (omega arith)
 
 module _ (W : ℕ) (pos : 0 < W) (b : List ℕ) (fresh : ℕ → ℕ) where
@@ -209,3 +216,20 @@ module _ (W : ℕ) (pos : 0 < W) (b : List ℕ) (fresh : ℕ → ℕ) where
                 (build-changed top below h (link W b k j / W) (n - j * s) (o - j * s) (part s j o new) (c + needBefore W h o l j) (m - j * s) (rw (length-part s j o new) some)
                 (room h o new c lim p r j j-lt) (small-part s j o new small) (held-child h k n o new c p g j j-lt) (agree-child W pos b b′ h k n a j j-lt) (omega arith) (cover-child W h o new n m cover j j-lt))))
           ])
+
+-- ---- Past the new size
+
+word-zero : (W : ℕ) (b : List ℕ) (k n o : ℕ) (new : List ℕ) → Small new → (i : ℕ) → n ≤ i → o + length new ≤ i → byteOf (dataPage W b k n o new (i / 8)) (i % 8) ≡ 0
+word-zero W b k n o new small i past beyond =
+    data-page-byte W b k n o new small (i / 8) (i % 8) (omega arith) ∙ splice-right o new _ (8 * (i / 8) + i % 8) (omega arith) ∙ seen-dead (n - (8 * (i / 8) + i % 8)) _ (omega arith)
+
+no-part : (s j o l : ℕ) → o + l ≤ j * s → partLength s j o l ≡ 0
+unfolding partLength
+no-part s j o l h = omega arith
+
+pub fresh-block-rule : FreshBlockRule
+unfolding pointerPage
+fresh-block-rule W b k n o new = (
+  λ i past beyond. word-zero W b k n o (new .values) (bytes-small (new .values) (new .small)) i past beyond,
+  λ fresh h c j past beyond. choose-zero (partLength (span W h) j o (length (new .values))) _ _ (no-part (span W h) j o (length (new .values)) beyond) ∙ seen-dead (n - j * span W h) (link W b k j) (omega arith),
+)

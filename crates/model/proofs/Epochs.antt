@@ -1,28 +1,28 @@
 -- Pairs and epochs: a plan is the pairs of its epochs, and a call that plans lays them into the lent slice or is refused. Every rule about plans
 -- and cuts begins with these.
-use mathlib.Core.Path.{_≡_, refl, ap, _∙_}
+use mathlib.Core.Path.{_≡_, refl, ap, _∙_, subst}
 use mathlib.Core.Logic.{_≢_, _⊎_, inl, inr}
-use mathlib.Core.Bool.{Bool, false}
-use mathlib.Core.List.{List, [], _∷_, _++_}
-use Prim.Native.Nat.{ℕ, suc, _-_, _*_, _^_, _≤_, _<_}
+use mathlib.Core.Bool.{Bool, false, _&&_, and-false}
+use mathlib.Core.List.{List, [], _∷_, _++_, append-nil}
+use Prim.Native.Nat.{ℕ, suc, _-_, _*_, _^_, _≤_, _<_, _+_, zero}
 use native.Mathlib.Omega.{arith}
 use native.Mathlib.Nat.{zero-add}
-use lib.ListN.{length, getD, take, drop}
-use lib.Seq.{sets, sets-eq, take-append-seam, take-nil}
-use lib.Dec.{T, ltb, lt→ltb}
+use lib.ListN.{length, getD, take, drop, List·getD-eq-default, length-append}
+use lib.Seq.{sets, sets-eq, take-append-seam, take-nil, getD-append-add}
+use lib.Dec.{T, ltb}
 use borrow.Author.Tests.{ltb-false, ne-eqb}
 use Rattle.model.specs.declared.Answer.the-variants.{Done, Refused}
 use Rattle.model.specs.declared.Fault.the-variants.{PlanLength}
 use Rattle.model.specs.declared.Fault.{Fault}
-use Rattle.model.specs.Lists.{consIf, distinct, concat}
+use Rattle.model.specs.Lists.{consIf, distinct, concat, all}
 use Rattle.model.specs.Store.{Store, store, barrier, isBarrier, performed, opening, epochs, fenced, flat, paired, laid}
 use Rattle.model.specs.Answers.{Faults, answered, unlessRefused, counted}
 use Rattle.model.specs.Calls.{Planned, planned}
 use Rattle.model.specs.Cut.{Cut, chosen, planOf, standing}
-use Rattle.model.specs.Claims.{Shaped}
-use Rattle.model.proofs.Cases.{either}
+use Rattle.model.specs.Claims.{Shaped, barrierAt}
+use Rattle.model.proofs.Cases.{either, split}
 use Rattle.model.proofs.Perform.{All, Plain}
-use Rattle.model.proofs.Addresses.{addresses, all-left, all-right, all-map, all-holds}
+use Rattle.model.proofs.Addresses.{addresses, all-left, all-right, all-holds}
 
 -- ---- Epochs
 
@@ -55,17 +55,85 @@ epochs-fenced [] f p = refl
 epochs-fenced (e ∷ []) f p = epochs-one e (f .0) (p .0)
 epochs-fenced (e ∷ d ∷ es) f p = epochs-first e (fenced (d ∷ es)) (p .0) ∙ ap (λ (r : List (List Store)). e ∷ r) (epochs-fenced (d ∷ es) (f .1) (p .1))
 
--- and it is shaped as plans must be
-pub shaped : (es : List (List Store)) → All Full es → All Plain es → All (λ e. T (distinct (addresses e))) es → Shaped (fenced es)
-shaped es f p o = record {
-  fences = rw (epochs-fenced es f p);
-  full = rw (epochs-fenced es f p) (all-holds (λ e. ltb 0 (length e)) es (all-map Full (λ e. T (ltb 0 (length e))) (λ e l. lt→ltb 0 (length e) l) es f));
-  once = rw (epochs-fenced es f p) (all-holds (λ e. distinct (addresses e)) es o);
-}
+-- ---- Where its barriers stand
 
-pub shaped-none : Shaped []
+-- none among stores
+plain-at : (e r : List Store) (i : ℕ) → Plain e → i < length e → barrierAt (e ++ r) i ≡ false
+unfolding All barrierAt isBarrier
+plain-at [] r i p l = absurd (omega arith)
+plain-at (s ∷ e) r zero p l = ne-eqb (s .at) (2 ^ 64 - 1) (p .0)
+plain-at (s ∷ e) r (suc i) p l = plain-at e r i (p .1) (omega arith)
+
+-- behind a list, those of the next
+after-at : (e r : List Store) (i : ℕ) → barrierAt (e ++ r) (length e + i) ≡ barrierAt r i
+unfolding barrierAt
+after-at e r i = ap isBarrier (getD-append-add e r i (store 0 0))
+
+-- a plan begins and ends with a store
+record Ended (ss : List Store) : Type 0 where
+  some : 0 < length ss
+  first : barrierAt ss 0 ≡ false
+  last : barrierAt ss (length ss - 1) ≡ false
+  apart : (i : ℕ) → (barrierAt ss i && barrierAt ss (suc i)) ≡ false
+
+past-at : (e : List Store) (i : ℕ) → length e ≤ i → barrierAt e i ≡ false
+unfolding barrierAt isBarrier store
+past-at e i l = rw (List·getD-eq-default e (store 0 0) l)
+
+one-ended : (e : List Store) → Full e → Plain e → Ended e
+one-ended e f p = record {
+  some = f;
+  first = inner 0 f;
+  last = inner (length e - 1) (omega arith);
+  apart = λ i. elim (split (length e) i) [
+    | inl past ↦ ap (λ (t : Bool). t && barrierAt e (suc i)) (past-at e i past)
+    | inr l ↦ ap (λ (t : Bool). t && barrierAt e (suc i)) (inner i l)
+  ];
+}
+  where
+    inner : (i : ℕ) → i < length e → barrierAt e i ≡ false
+    inner i l = subst (λ (x : List Store). barrierAt x i ≡ false) (append-nil e) (plain-at e [] i p l)
+
+more-ended : (e r : List Store) → Full e → Plain e → Ended r → Ended (e ++ (barrier ∷ r))
+unfolding barrierAt
+more-ended e r f p n =
+    let ss : List Store = e ++ (barrier ∷ r) in
+    let len : length ss ≡ length e + suc (length r) = length-append e (barrier ∷ r) in
+    let at-end : length ss - 1 ≡ length e + suc (length r - 1) = omega (arith, n .some) in
+    record {
+      some = omega (arith, len);
+      first = plain-at e (barrier ∷ r) 0 p f;
+      last = rw at-end (after-at e (barrier ∷ r) (suc (length r - 1)) ∙ n .last);
+      apart = λ i. elim (split (length e) i) [
+        | inr l ↦ ap (λ (t : Bool). t && barrierAt ss (suc i)) (plain-at e (barrier ∷ r) i p l)
+        | inl from ↦ behind i (i - length e) (omega arith)
+      ];
+    }
+  where
+    behind : (i j : ℕ) → i ≡ length e + j → (barrierAt (e ++ (barrier ∷ r)) i && barrierAt (e ++ (barrier ∷ r)) (suc i)) ≡ false
+    behind i zero z =
+        let next : suc i ≡ length e + 1 = omega arith in
+        rw (next, after-at e (barrier ∷ r) 1, n .first) (and-false (barrierAt (e ++ (barrier ∷ r)) i))
+    behind i (suc j) z =
+        let next : suc i ≡ length e + suc (suc j) = omega arith in
+        rw (next, z, after-at e (barrier ∷ r) (suc j), after-at e (barrier ∷ r) (suc (suc j))) (n .apart j)
+
+plan-ended : (e : List Store) (es : List (List Store)) → All Full (e ∷ es) → All Plain (e ∷ es) → Ended (fenced (e ∷ es))
 unfolding fenced All
-shaped-none = shaped [] tt tt tt
+plan-ended e [] f p = one-ended e (f .0) (p .0)
+plan-ended e (d ∷ es) f p = more-ended e (fenced (d ∷ es)) (f .0) (p .0) (plan-ended d es (f .1) (p .1))
+
+-- an empty plan is shaped as plans must be, and so is one of epochs
+pub shaped-none : Shaped []
+unfolding all epochs
+shaped-none = record { first = past-at [] 0 (omega arith); last = past-at [] 0 (omega arith); apart = λ i. ap (λ (t : Bool). t && barrierAt [] (suc i)) (past-at [] i (omega arith)); once = tt }
+
+pub shaped : (es : List (List Store)) → All Full es → All Plain es → All (λ e. T (distinct (addresses e))) es → Shaped (fenced es)
+unfolding fenced All
+shaped [] f p o = shaped-none
+shaped (e ∷ es) f p o =
+    let n : Ended (fenced (e ∷ es)) = plan-ended e es f p in
+    record { first = n .first; last = n .last; apart = n .apart; once = rw (epochs-fenced (e ∷ es) f p) (all-holds (λ e. distinct (addresses e)) (e ∷ es) o) }
 
 -- ---- The lent slice
 

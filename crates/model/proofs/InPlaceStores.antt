@@ -11,20 +11,20 @@ use lib.ListN.{length}
 use lib.Dec.{T, leb, eqb, le→leb, eqb-refl}
 use Rattle.model.specs.Lists.{choose}
 use Rattle.model.specs.Words.{byteOf}
-use Rattle.model.specs.Tree.{live, seen, span, cell, link, blocks}
+use Rattle.model.specs.Tree.{live, span, cell, link, blocks}
 use Rattle.model.specs.Store.{Store, store}
 use Rattle.model.specs.Hidden.{keepsBytes, hiddenUnder}
-use Rattle.model.specs.Fresh.{splice, part, partLength, dataPage}
+use Rattle.model.specs.Fresh.{part, partLength, dataPage}
 use Rattle.model.specs.InPlace.{tailBefore, tailWords, hooked, inPlace}
 use Rattle.model.proofs.Cases.{split, and-both, every-all, or-left, or-right, some-at}
 use Rattle.model.proofs.Sums.{sum-le, sum-add}
 use Rattle.model.proofs.Counting.{one, occ, occ-joined}
-use Rattle.model.proofs.Bytes.{byteOf-lt, byteOf-wordOf}
 use Rattle.model.proofs.Perform.{All, address-block, address-place}
 use Rattle.model.proofs.Addresses.{addresses, all-joined, all-map, occ-addresses-joined, addresses-counted, block-once}
 use Rattle.model.proofs.Trees.{childBlocks}
-use Rattle.model.proofs.Agree.{seen-live, seen-lt}
-use Rattle.model.proofs.Splice.{Small, small-part, splice-left, splice-small}
+use Rattle.model.proofs.Agree.{seen-live}
+use Rattle.model.proofs.Splice.{Small, small-part, splice-left}
+use Rattle.model.proofs.Built.{data-page-byte}
 
 not-live : (n : ℕ) → n ≤ 0 → T (not (live n))
 unfolding live
@@ -49,12 +49,8 @@ module _ (W : ℕ) (b : List ℕ) where
 
   -- with bytes written at n, those before are kept
   kept-byte : (k n : ℕ) (new : List ℕ) (j i : ℕ) → Small new → i < 8 → 8 * j + i < n → byteOf (dataPage W b k n n new j) i ≡ byteOf (link W b k j) i
-  unfolding dataPage
   kept-byte k n new j i small l before =
-      let was : ℕ → ℕ = byteOf (link W b k j) in
-      let old : ℕ → ℕ = λ t. seen (n - (8 * j + t)) (was t) in
-      byteOf-wordOf 8 (λ t. splice n new (old t) (8 * j + t)) (λ t. splice-small n new (old t) (8 * j + t) small (seen-lt (n - (8 * j + t)) (was t) 256 (byteOf-lt (link W b k j) t))) i l
-      ∙ splice-left n new (old i) (8 * j + i) before ∙ seen-live (n - (8 * j + i)) (was i) (omega arith)
+      data-page-byte W b k n n new small j i l ∙ splice-left n new _ (8 * j + i) before ∙ seen-live (n - (8 * j + i)) (byteOf (link W b k j) i) (omega arith)
 
   data-keeps : (k n : ℕ) (new : List ℕ) (j : ℕ) → Small new → T (keepsBytes n j (link W b k j) (dataPage W b k n n new j))
   unfolding keepsBytes

@@ -2,10 +2,10 @@
 use mathlib.Core.Path.{_≡_, refl, _∙_}
 use mathlib.Core.Logic.{_≢_, _⊎_, inl, inr}
 use mathlib.Core.List.{List, [], _∷_, _++_}
-use Prim.Native.Nat.{ℕ, zero, suc, _+_, _-_, _/_, _^_, _≤_, _<_}
+use Prim.Native.Nat.{ℕ, _+_, _-_, _/_, _^_, _≤_, _<_}
 use native.Mathlib.Omega.{arith}
 use lib.ListN.{length, length-set}
-use lib.Dec.{T, leb, ltb, ltb→lt}
+use lib.Dec.{T, leb, ltb}
 use borrow.Author.Tests.{leb-false, ltb-false}
 use Rattle.model.specs.declared.Answer.the-variants.{Done, Refused}
 use Rattle.model.specs.declared.Answer.{Answer}
@@ -22,12 +22,11 @@ use Rattle.model.specs.Answers.{Faults, unlessRefused}
 use Rattle.model.specs.Calls.{boardFaults, fileFaults, Planned, planned, lowest, writeFaults, write, setLength}
 use Rattle.model.specs.Cut.{Change, writing, lengthTo, fileOf, called, planOf, altered, after, Cut, Names, standing, lastArrived, planFor}
 use Rattle.model.specs.Claims.{Shaped, CutSafe, Altered, PlanRule, PowerCutRule, AccuracyRule}
-use Rattle.model.proofs.Cases.{and-left, and-right}
 use Rattle.model.proofs.Counting.{occ, occ-distinct}
 use Rattle.model.proofs.Perform.{All, all-append, length-performed, Plain, stores-fenced}
 use Rattle.model.proofs.Addresses.{addresses, all-left, all-right, all-map, all-holds}
 use Rattle.model.proofs.Epochs.{Full, epochs-fenced, shaped, shaped-none, Passed, Refusing, planned-either}
-use Rattle.model.proofs.Splice.{Small}
+use Rattle.model.proofs.Splice.{bytes-small}
 use Rattle.model.proofs.Shown.{count-kept}
 use Rattle.model.proofs.Accepting.{Ranged, in-range, facts, address-on-board}
 use Rattle.model.proofs.HiddenStores.{hidden-in-range}
@@ -138,12 +137,6 @@ module _ (g : Layout) (fit : Fits g) (b : List ℕ) (t : T (accepted g b)) (f : 
   plan-cut u = steps-rule g fit f u b t ps (good-safe-steps g f wanted b ps good) wanted (good-reads g f wanted b ps good) (fenced (planEpochs ps)) plan-epochs
 
 -- ---- Calls
-
-bytes-small : (xs : List ℕ) → T (all (λ x. ltb x 256) xs) → Small xs
-unfolding all
-bytes-small [] t i = omega arith
-bytes-small (x ∷ xs) t zero = ltb→lt x 256 (and-left (ltb x 256) (all (λ y. ltb y 256) xs) t)
-bytes-small (x ∷ xs) t (suc i) = bytes-small xs (and-right (ltb x 256) (all (λ y. ltb y 256) xs) t) i
 
 -- the call is done, and its plan alters its file as it asks
 pub record Doing (g : Layout) (b : List ℕ) (c : Change) (p : Planned) : Type 0 where

@@ -1,18 +1,19 @@
 -- Bytes written into what a tree reads as, seen from its children.
 use mathlib.Core.Path.{_≡_, refl, sym, ap, _∙_}
 use mathlib.Core.Logic.{_≢_, inl, inr}
-use mathlib.Core.List.{List}
+use mathlib.Core.List.{List, [], _∷_}
 use Prim.Native.Nat.{ℕ, zero, suc, _+_, _-_, _*_, _≤_, _<_, min}
 use native.Mathlib.Omega.{arith}
 use native.Mathlib.Nat.{mul-le-mul-right}
 use lib.ListN.{length, getD, drop, length-take, length-drop, List·getD-eq-default}
 use lib.Seq.{getD-take, getD-drop, take-all}
 use lib.Arith.{digits-lt}
+use lib.Dec.{T, ltb, ltb→lt}
 use borrow.Author.Tests.{lt-ltb, le-ltb, le-leb, lt-leb}
-use Rattle.model.specs.Lists.{choose}
+use Rattle.model.specs.Lists.{choose, all}
 use Rattle.model.specs.Tree.{span}
 use Rattle.model.specs.Fresh.{splice, part, partLength}
-use Rattle.model.proofs.Cases.{split}
+use Rattle.model.proofs.Cases.{split, and-left, and-right}
 
 -- ---- splicing
 
@@ -59,6 +60,12 @@ choose-pos (suc n) a z e = refl
 
 abbrev pub Small : List ℕ → Type 0
 Small new = (i : ℕ) → getD new i 0 < 256
+
+pub bytes-small : (xs : List ℕ) → T (all (λ x. ltb x 256) xs) → Small xs
+unfolding all
+bytes-small [] t i = omega arith
+bytes-small (x ∷ xs) t zero = ltb→lt x 256 (and-left (ltb x 256) (all (λ y. ltb y 256) xs) t)
+bytes-small (x ∷ xs) t (suc i) = bytes-small xs (and-right (ltb x 256) (all (λ y. ltb y 256) xs) t) i
 
 pub length-part : (s j o : ℕ) (new : List ℕ) → length (part s j o new) ≡ partLength s j o (length new)
 unfolding part partLength

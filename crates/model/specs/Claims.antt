@@ -1,28 +1,36 @@
 -- What document 01 promises of these definitions, as statements. README says which are proved, and where.
 use mathlib.Core.Path.{_≡_}
 use mathlib.Core.Logic.{_≢_, _⊎_, _↔_}
-use mathlib.Core.Bool.{Bool}
+use mathlib.Core.Bool.{Bool, false, _&&_}
 use mathlib.Core.List.{List, [], map}
-use Prim.Native.Nat.{ℕ, _+_, _/_, _<_}
-use lib.ListN.{length, take, drop}
-use lib.Dec.{T, leb, ltb}
+use Prim.Native.Nat.{ℕ, suc, _+_, _-_, _*_, _/_, _%_, _≤_, _<_}
+use lib.ListN.{length, getD, take, drop}
+use lib.Dec.{T, leb}
 use Rattle.model.specs.declared.Answer.the-variants.{Refused}
 use Rattle.model.specs.declared.Fault.the-variants.{Trailer}
 use Rattle.model.specs.Lists.{all, member, distinct}
+use Rattle.model.specs.Words.{byteOf, Bytes}
 use Rattle.model.specs.Layout.{Layout, Fits, files}
+use Rattle.model.specs.Tree.{span}
 use Rattle.model.specs.Board.{blockCount, trailer, walkTo, contents, liveBlocks, free, inRange, accepted, wordCountSound}
-use Rattle.model.specs.Store.{Store, performed, stores, epochs, fenced}
+use Rattle.model.specs.Store.{Store, store, isBarrier, performed, stores, epochs}
 use Rattle.model.specs.Hidden.{hidden}
+use Rattle.model.specs.Fresh.{dataPage, pointerPage}
 use Rattle.model.specs.Calls.{checkAnswer, freeCountAnswer, sizeAnswer, readAnswer, readBuffer, Planned, format, performAnswer}
 use Rattle.model.specs.Cut.{Change, fileOf, called, planFor, planOf, after, Cut, chosen, Names, standing, lastArrived}
 use Rattle.model.specs.Safe.{left, SafePlan, decided}
 
 -- ---- Plans
 
+-- pair i is a barrier
+unfoldable pub barrierAt : List Store → ℕ → Bool
+barrierAt ss i = isBarrier (getD ss i (store 0 0))
+
 -- *none stands first or last*, nor two in a row; *within an epoch no address occurs twice*
 pub record Shaped (ss : List Store) : Type 0 where
-  pub fences : ss ≡ fenced (epochs ss)
-  pub full : T (all (λ e. ltb 0 (length e)) (epochs ss))
+  pub first : barrierAt ss 0 ≡ false
+  pub last : barrierAt ss (length ss - 1) ≡ false
+  pub apart : (i : ℕ) → (barrierAt ss i && barrierAt ss (suc i)) ≡ false
   pub once : T (all (λ e. distinct (map (λ s. s .at) e)) (epochs ss))
 
 -- every plan of a write or a length change on an accepted board is so, and stores to blocks 1 to B − 2 only
@@ -42,6 +50,13 @@ abbrev pub FreshRule : Type 0
 FreshRule = (g : Layout) → Fits g → (b : List ℕ) → T (accepted g b) → (c : Change) (slice : List ℕ)
     → let ss : List Store = planOf (called g b c slice) in
     0 < length ss → (k : ℕ) → T (member k (free g b)) → T (member k (map (λ s. s .at / g .words) (stores ss))) ↔ T (member k (take (planFor g b c .taken) (free g b)))
+
+-- *A fresh file block holds what is visible: bytes and pointers at or past the new size are 0*, of a tree of which n bytes lay below the old size
+abbrev pub FreshBlockRule : Type 0
+FreshBlockRule = (W : ℕ) (b : List ℕ) (k n o : ℕ) (new : Bytes)
+    → let l : ℕ = length (new .values) in
+    ((i : ℕ) → n ≤ i → o + l ≤ i → byteOf (dataPage W b k n o (new .values) (i / 8)) (i % 8) ≡ 0)
+    × ((fresh : ℕ → ℕ) (h c j : ℕ) → n ≤ j * span W h → o + l ≤ j * span W h → pointerPage W fresh b h k n o l c j ≡ 0)
 
 -- the live blocks, the free blocks, block 0 and the trailer make B
 abbrev pub CensusRule : Type 0
