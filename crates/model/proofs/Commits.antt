@@ -123,6 +123,7 @@ module _ (g : Layout) (fit : Fits g) (b b₂ : List ℕ) (len : length b ≡ len
     pub now : size g b₂ f ≡ m
     pub low : h ≤ g .height
     pub most : m ≤ greatest g
+    -- past the span nothing is seen
     pub past : (i : ℕ) → span (g .words) h ≤ i → i < m → splice o new 0 i ≡ 0
     pub change : Changed (g .words) b b₂ (blockCount g b - 1) h k (root g b₂ f / g .words) (size g b f) m o new extra
 

@@ -15,12 +15,12 @@ use Rattle.model.specs.Tree.{span, cell, walk}
 use Rattle.model.specs.Board.{rootWalk, rootBlocks, blockCount, rootAddress, sizeAddress, root, size, walkTo, fileBlocks, liveBlocks, accepted}
 use Rattle.model.specs.Store.{Store, store, performed}
 use Rattle.model.specs.Plan.{step}
-use Rattle.model.specs.Fresh.{splice, stored}
+use Rattle.model.specs.Fresh.{stored}
 use Rattle.model.specs.Change.{splicedWord, Shadow, descend}
 use Rattle.model.proofs.Cases.{decide}
 use Rattle.model.proofs.Counting.{occ}
 use Rattle.model.proofs.Perform.{All, address-block}
-use Rattle.model.proofs.Splice.{Small, splice-right}
+use Rattle.model.proofs.Splice.{Small, past-span}
 use Rattle.model.proofs.Built.{used}
 use Rattle.model.proofs.Descent.{Replaced, walk-inside, word-changed, Committed, descend-inside, descend-low, descend-changed}
 use Rattle.model.proofs.Shown.{Same, words-pos, leaf-of, file-live, same-address, root-block}
@@ -32,10 +32,6 @@ use Rattle.model.proofs.Committing.{facts-same, spot-same, spot-commit}
 use Rattle.model.proofs.Supplied.{Supply, supply-once, stored-keeps}
 use Rattle.model.proofs.Steps.{committed}
 use Rattle.model.proofs.GoodSteps.{GoodStep, pages-hidden, pages-once, pages-same, pages-held}
-
--- a write that ends within the span is zero past it
-pub past-span : (o : ℕ) (new : List ℕ) (s m : ℕ) → o + length new ≤ s → (i : ℕ) → s ≤ i → i < m → splice o new 0 i ≡ 0
-past-span o new s m l i u v = splice-right o new 0 i (omega arith)
 
 module _ (g : Layout) (fit : Fits g) (b : List ℕ) (t : T (accepted g b)) (f : ℕ) (f-lt : f < files g) (o : ℕ) (new : List ℕ) (some : 0 < length new) (small : Small new)
     (within : o + length new ≤ size g b f) (under : o + length new ≤ span (g .words) (root g b f % g .words)) where

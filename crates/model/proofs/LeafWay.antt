@@ -20,7 +20,7 @@ use Rattle.model.proofs.Cases.{decide, and-both}
 use Rattle.model.proofs.Counting.{one, occ}
 use Rattle.model.proofs.Perform.{All, address-block}
 use Rattle.model.proofs.Agree.{agree, frame, cell-away}
-use Rattle.model.proofs.Splice.{Small, Cover}
+use Rattle.model.proofs.Splice.{Small, Cover, past-span}
 use Rattle.model.proofs.Changed.{Changed}
 use Rattle.model.proofs.Built.{held, used, used-add, used-one, length-build, held-left, held-right, build-changed}
 use Rattle.model.proofs.Shown.{Same, words-pos, count-kept, inode-kept, trailer-kept, leaf-kept, leaf-sound-kept, inode-live, leaf-live, file-live, leaf-of, slot}
@@ -31,7 +31,6 @@ use Rattle.model.proofs.Supplied.{Supply, supply-once, stored-keeps}
 use Rattle.model.proofs.Steps.{committed}
 use Rattle.model.proofs.GoodSteps.{GoodStep, pages-hidden, pages-once, pages-same, pages-held}
 use Rattle.model.proofs.Taking.{Takes}
-use Rattle.model.proofs.InsideWays.{past-span}
 
 -- ---- The step
 

@@ -25,7 +25,7 @@ use Rattle.model.proofs.Perform.{All, all-append, address-block}
 use Rattle.model.proofs.Addresses.{addresses, addresses-away, Stands, all-map, all-left, all-right, occ-addresses-append, stored-once, held-of-all}
 use Rattle.model.proofs.Trees.{sound-null}
 use Rattle.model.proofs.Agree.{agree-away, agree-refl, agree-none}
-use Rattle.model.proofs.Splice.{Small, splice-none}
+use Rattle.model.proofs.Splice.{Small, splice-none, past-span}
 use Rattle.model.proofs.Changed.{Changed, changed-to}
 use Rattle.model.proofs.Built.{used, length-build, build-changed}
 use Rattle.model.proofs.InPlaceStores.{in-place-hidden, in-place-once}
@@ -39,7 +39,6 @@ use Rattle.model.proofs.Committing.{facts-same, spot-same, spot-commit}
 use Rattle.model.proofs.Supplied.{Supply, supply-once, stored-hidden, stored-apart, stored-not-live}
 use Rattle.model.proofs.Steps.{committed}
 use Rattle.model.proofs.GoodSteps.{GoodStep, epoch-same, epoch-stands}
-use Rattle.model.proofs.InsideWays.{past-span}
 
 module _ (g : Layout) (fit : Fits g) (b : List ℕ) (t : T (accepted g b)) (f : ℕ) (f-lt : f < files g) where
   ok : Facts g b

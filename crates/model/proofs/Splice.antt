@@ -32,6 +32,10 @@ splice-right o new old i p = elim (split o i) [
   | inr q ↦ splice-left o new old i q
 ]
 
+-- bytes that end within a span are not seen past it
+pub past-span : (o : ℕ) (new : List ℕ) (s m : ℕ) → o + length new ≤ s → (i : ℕ) → s ≤ i → i < m → splice o new 0 i ≡ 0
+past-span o new s m l i u v = splice-right o new 0 i (omega arith)
+
 pub splice-none : (o : ℕ) (new : List ℕ) (old i : ℕ) → length new ≡ 0 → splice o new old i ≡ old
 splice-none o new old i e = elim (split o i) [
   | inl q ↦ splice-right o new old i (omega arith)
