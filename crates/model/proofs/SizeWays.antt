@@ -132,7 +132,7 @@ module _ (g : Layout) (fit : Fits g) (b : List ℕ) (t : T (accepted g b)) (f : 
         outcome = spot-commit g fit b c₁ t same f f-lt a m spot (spliced g b f o new m) extra (written-commit g fit b done len f h k o m new extra written (w .fine)) (w .spare);
       }
 
-  -- the file's tree, and that it is sound
+  -- the file's own tree
   tree-had : Had g b f (root g b f % g .words) (root g b f / g .words)
   tree-had live = (refl, refl)
 
