@@ -1,4 +1,4 @@
--- What document 01 promises of these definitions, as statements. README says which are proved, and where.
+-- What document 01 promises of these definitions, as statements. All are proved; README says where.
 use mathlib.Core.Path.{_≡_}
 use mathlib.Core.Logic.{_≢_, _⊎_, _↔_}
 use mathlib.Core.Bool.{Bool, false, _&&_}
@@ -44,6 +44,8 @@ abbrev pub FormatPlanRule : Type 0
 FormatPlanRule = (g : Layout) → Fits g → (b : List ℕ) → T (wordCountSound g b) → (slice : List ℕ)
     → let ss : List Store = planOf (format g b slice) in
     Shaped ss × T (all (λ s. leb (g .words) (s .at)) (stores ss))
+
+-- ---- Fresh blocks
 
 -- Of the free blocks a plan stores to those that are *taken lowest number first*, as many as 7 counts, and to no other
 abbrev pub FreshRule : Type 0
