@@ -84,7 +84,7 @@ module _ (g : Layout) (b : List ℕ) where
       let v : Bool = rootSound (g .words) b (g .height) (blockCount g b - 1) (root g b f) (size g b f) in
       (leb→le (size g b f) (greatest g) (and-left u v t), and-right u v t)
 
-  inode-range : T (trailerSound g b) → Ranged g b (inodeBlock g b)
+  pub inode-range : T (trailerSound g b) → Ranged g b (inodeBlock g b)
   unfolding trailerSound
   inode-range t =
       let m : Bool = eqb (trailer g b 0 % g .words) 1 in
@@ -92,7 +92,7 @@ module _ (g : Layout) (b : List ℕ) where
       let w : Bool = every (g .words - 1) (λ j. eqb (trailer g b (suc j)) (trailerWord g (blockCount g b) (suc j))) in
       ranged g b (inodeBlock g b) (and-right m r (and-left (m && r) w t))
 
-  leaf-range : (l : ℕ) → T (leafSound g b l) → Ranged g b (leaf g b l)
+  pub leaf-range : (l : ℕ) → T (leafSound g b l) → Ranged g b (leaf g b l)
   unfolding leafSound
   leaf-range l t = ranged g b (leaf g b l) (and-right (eqb (inodePointer g b l % g .words) 0) (inRange g b (leaf g b l)) t)
 

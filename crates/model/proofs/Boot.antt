@@ -1,20 +1,19 @@
 -- Block 0, the boot block: what it holds decides no answer, no plan and no slice.
-use mathlib.Core.Path.{_≡_, refl, sym, subst, _∙_}
+use mathlib.Core.Path.{_≡_, refl, sym, subst, _∙_, ap}
 use mathlib.Core.Logic.{_≢_, inl, inr}
-use mathlib.Core.Bool.{Bool, true, false, not, _&&_, _||_, or-true, false≢true}
+use mathlib.Core.Bool.{Bool, true, false, not, _&&_, _||_}
 use mathlib.Core.List.{List, [], _∷_, _++_, append-nil, append-assoc}
-use Prim.Native.Nat.{ℕ, zero, suc, _+_, _-_, _*_, _/_, _%_, _≤_, _<_, min}
+use Prim.Native.Nat.{ℕ, suc, _+_, _-_, _*_, _/_, _%_, _<_, min}
 use native.Mathlib.Omega.{arith}
-use native.Mathlib.Nat.{div-lt-iff-lt-mul, mod-lt}
-use lib.ListN.{length, getD, take, drop}
-use lib.Dec.{leb, ltb, eqb}
-use borrow.Author.Tests.{leb-false, ltb-true, eq-eqb, not-true, not-false}
+use lib.ListN.{length, getD, take, drop, List·getD-eq-default}
+use lib.Dec.{leb, ltb, eqb, T}
+use borrow.Author.Tests.{leb-false, not-false}
 use Rattle.model.specs.declared.Answer.the-variants.{Refused}
 use Rattle.model.specs.declared.Fault.the-variants.{WordCount, Trailer, Damaged, FileNumber, Offset, End, FreeBlocks, PairCount, PlanLength, Address}
 use Rattle.model.specs.declared.Fault.{Fault}
-use Rattle.model.specs.Lists.{tabulate, joined, every, all, consIf, pickFrom, member, distinct}
+use Rattle.model.specs.Lists.{tabulate, every, all, pickFrom, member, distinct}
 use Rattle.model.specs.Layout.{Layout, Fits, files}
-use Rattle.model.specs.Board.{trailerWord, greatest, blockCount, trailer, inodeBlock, inodePointer, leaf, size, contents, fileBlocks, liveBlocks, free, inRange, wordCountSound, trailerSound, leafSound, fileSound, treesSound}
+use Rattle.model.specs.Board.{trailerWord, greatest, blockCount, inodeBlock, leaf, size, contents, fileBlocks, liveBlocks, free, inRange, wordCountSound, trailerSound, leafSound, fileSound, treesSound, accepted}
 use Rattle.model.specs.Store.{Store, store, isBarrier, paired, laid}
 use Rattle.model.specs.Plan.{Plan, plan, step, pairs}
 use Rattle.model.specs.Fresh.{stored}
@@ -24,58 +23,20 @@ use Rattle.model.specs.Answers.{Faults, answered, unlessRefused}
 use Rattle.model.specs.Calls.{wordCountFault, boardFaults, fileFaults, checkAnswer, freeCountAnswer, sizeAnswer, readCount, readAnswer, readBuffer, planned, lowest, writeFaults, write, setLength, format, performFaults, performAnswer}
 use Rattle.model.specs.Cut.{Change, writing, lengthTo, called}
 use Rattle.model.specs.Claims.{SameCalls, BootRule}
-use Rattle.model.proofs.Cases.{decide, true-left, true-right, every-cong, joined-cong}
+use Rattle.model.proofs.Cases.{true-left, every-cong, joined-cong, every-of, split}
+use Rattle.model.proofs.Counting.{occ}
+use Rattle.model.proofs.Shown.{leaf-of, slot, inode-live}
 use Rattle.model.proofs.Formatted.{counted}
+use Rattle.model.proofs.Accepting.{Ranged, inode-range, leaf-range, facts}
+use Rattle.model.proofs.Census.{FreeBlock, free-at}
+use Rattle.model.proofs.Apart.{inode-not-leaf}
 use Rattle.model.proofs.Alike.{Alike, dropped-alike, Found, count-alike, trailer-alike, inode-alike, pointer-alike, leaf-alike, size-alike, file-blocks-alike, file-sound-alike, contents-alike}
 use Rattle.model.proofs.BootPlans.{length-plan-alike, Clear, write-plan-alike}
-
--- ---- Tests and lists
 
 -- the second tests need agree only where the first hold
 and-alike : (s s′ r r′ : Bool) → s ≡ s′ → (s ≡ true → r ≡ r′) → (s && r) ≡ (s′ && r′)
 and-alike true s′ r r′ e f = λ t. e t && f refl t
 and-alike false s′ r r′ e f = rw (← e)
-
-every-at : (n : ℕ) (p : ℕ → Bool) → every n p ≡ true → (j : ℕ) → j < n → p j ≡ true
-unfolding every
-every-at zero p e j l = absurd (omega arith)
-every-at (suc n) p e j l = elim (decide j n) [
-  | inl z ↦ rw z (true-right (every n p) (p n) e)
-  | inr z ↦ every-at n p (true-left (every n p) (p n) e) j (omega arith)
-]
-
--- what is picked is one of the numbers looked at, or 0 where there are too few
-picked : (P : ℕ → Type 0) (p : ℕ → Bool) → P 0 → (c n : ℕ) → ((x : ℕ) → c ≤ x → x < c + n → p x ≡ true → P x) → (i : ℕ) → P (getD (pickFrom c n p) i 0)
-unfolding pickFrom consIf
-picked P p none c zero each i = none
-picked P p none c (suc n) each i = by (p c) refl (picked P p none (c + 1) n (λ x l u e. each x (omega arith) (omega arith) e)) i
-  where
-    by : (t : Bool) → p c ≡ t → ((k : ℕ) → P (getD (pickFrom (c + 1) n p) k 0)) → (k : ℕ) → P (getD (consIf t c (pickFrom (c + 1) n p)) k 0)
-    by true e rest zero = each c (omega arith) (omega arith) e
-    by true e rest (suc k) = rest k
-    by false e rest k = rest k
-
-member-left : (x : ℕ) (xs ys : List ℕ) → member x xs ≡ true → member x (xs ++ ys) ≡ true
-unfolding member
-member-left x [] ys e = absurd (false≢true e)
-member-left x (y ∷ xs) ys e = by (eqb x y) e (member-left x xs ys)
-  where
-    by : (t : Bool) → (t || member x xs) ≡ true → (member x xs ≡ true → member x (xs ++ ys) ≡ true) → (t || member x (xs ++ ys)) ≡ true
-    by true e rest = refl
-    by false e rest = rest e
-
-member-last : (x : ℕ) (xs : List ℕ) → member x (xs ++ (x ∷ [])) ≡ true
-unfolding member
-member-last x [] = rw (eq-eqb x x refl)
-member-last x (y ∷ xs) = rw (member-last x xs, or-true)
-
-member-tabulate : (n : ℕ) (f : ℕ → ℕ) (j : ℕ) → j < n → member (f j) (tabulate n f) ≡ true
-unfolding tabulate
-member-tabulate zero f j l = absurd (omega arith)
-member-tabulate (suc n) f j l = elim (decide j n) [
-  | inl e ↦ rw e (member-last (f n) (tabulate n f))
-  | inr d ↦ member-left (f j) (tabulate n f) (f n ∷ []) (member-tabulate n f j (omega arith))
-]
 
 -- ---- Lists of faults
 
@@ -125,96 +86,46 @@ module _ {P : Type 0} where
 
 -- ---- Boards
 
-range-parts : (g : Layout) (b : List ℕ) (k : ℕ) → inRange g b k ≡ true → (0 < k) × (k < blockCount g b - 1)
-unfolding inRange
-range-parts g b k e =
-    let low : Bool = ltb 0 k in
-    let high : Bool = ltb k (blockCount g b - 1) in
-    (ltb-true 0 k (true-left low high e), ltb-true k (blockCount g b - 1) (true-right low high e))
-
-trailer-off : (g : Layout) → Fits g → (b : List ℕ) → wordCountSound g b ≡ true → 0 < blockCount g b - 1
-trailer-off g fit b e = omega (arith, counted g fit b (rw e tt) .blocks-least)
-
-inode-off : (g : Layout) (b : List ℕ) → trailerSound g b ≡ true → 0 < inodeBlock g b
-unfolding trailerSound
-inode-off g b e =
-    let m : Bool = eqb (trailer g b 0 % g .words) 1 in
-    let r : Bool = inRange g b (inodeBlock g b) in
-    let w : Bool = every (g .words - 1) (λ j. eqb (trailer g b (suc j)) (trailerWord g (blockCount g b) (suc j))) in
-    range-parts g b (inodeBlock g b) (true-right m r (true-left (m && r) w e)) .0
-
-leaves-off : (g : Layout) (b : List ℕ) → every (g .leaves) (leafSound g b) ≡ true → (l : ℕ) → l < g .leaves → (0 < leaf g b l) × (leaf g b l < blockCount g b - 1)
-unfolding leafSound
-leaves-off g b e l h =
-    range-parts g b (leaf g b l) (true-right (eqb (inodePointer g b l % g .words) 0) (inRange g b (leaf g b l)) (every-at (g .leaves) (leafSound g b) e l h))
-
 -- a board on which every file's inode is found
 record Rooted (g : Layout) (b : List ℕ) : Type 0 where
   trailer-there : 0 < blockCount g b - 1
   inode-there : 0 < inodeBlock g b
-  leaves-there : (l : ℕ) → l < g .leaves → (0 < leaf g b l) × (leaf g b l < blockCount g b - 1)
+  leaves-there : (l : ℕ) → l < g .leaves → Ranged g b (leaf g b l)
 
-leaf-number : (g : Layout) → Fits g → (f : ℕ) → f < files g → f / g .inodes < g .leaves
-unfolding files
-leaf-number g fit f l = div-lt-iff-lt-mul (fit .inodes-some) .1 l
+leaves-found : (g : Layout) (b : List ℕ) → every (g .leaves) (leafSound g b) ≡ true → (l : ℕ) → l < g .leaves → Ranged g b (leaf g b l)
+leaves-found g b e l h = leaf-range g b l (every-of (g .leaves) (leafSound g b) (rw e tt) l h)
 
-file-found : (g : Layout) → Fits g → (b : List ℕ) → Rooted g b → (f : ℕ) → f < files g → Found g b f
-file-found g fit b r f l =
-    record { trailer-there = r .trailer-there; inode-there = r .inode-there; leaf-there = r .leaves-there (f / g .inodes) (leaf-number g fit f l) .0 }
+module _ (g : Layout) (fit : Fits g) (b : List ℕ) where
+  trailer-off : wordCountSound g b ≡ true → 0 < blockCount g b - 1
+  trailer-off e = omega (arith, counted g fit b (rw e tt) .blocks-least)
 
--- and no block is reached twice
-record Whole (g : Layout) (b : List ℕ) : Type 0 where
-  rooted : Rooted g b
-  once : distinct (liveBlocks g b) ≡ true
+  rooted : T (accepted g b) → Rooted g b
+  rooted t = let ok = facts g fit b t in record { trailer-there = omega (arith, ok .sizes .blocks-least); inode-there = ok .inode .0; leaves-there = ok .leaf-in }
 
-whole : (g : Layout) (b : List ℕ) → 0 < blockCount g b - 1 → 0 < inodeBlock g b → treesSound g b ≡ true → Whole g b
-unfolding treesSound
-whole g b there inode e =
-    let l : Bool = every (g .leaves) (leafSound g b) in
-    let f : Bool = every (files g) (fileSound g b) in
-    let d : Bool = distinct (liveBlocks g b) in
-    record {
-      rooted = record { trailer-there = there; inode-there = inode; leaves-there = leaves-off g b (true-left l f (true-left (l && f) d e)) };
-      once = true-right (l && f) d e;
-    }
+  file-found : Rooted g b → (f : ℕ) → f < files g → Found g b f
+  file-found r f l = record { trailer-there = r .trailer-there; inode-there = r .inode-there; leaf-there = r .leaves-there (f / g .inodes) (leaf-of g fit f l) .0 }
 
--- there, growth leaves the trailer and the inode pointer block alone
-module _ (g : Layout) (b : List ℕ) (w : Whole g b) where
-  leaf-other : (l : ℕ) → l < g .leaves → inodeBlock g b ≢ leaf g b l
-  unfolding liveBlocks distinct
-  leaf-other l h e =
-      let k : ℕ = inodeBlock g b in
-      let leaves : List ℕ = tabulate (g .leaves) (leaf g b) in
-      let rest : List ℕ = leaves ++ joined (files g) (fileBlocks g b) in
-      let out : member k rest ≡ false = not-true (member k rest) (true-left (not (member k rest)) (distinct rest) (w .once)) in
-      let there : member k rest ≡ true = rw e (member-left (leaf g b l) leaves (joined (files g) (fileBlocks g b)) (member-tabulate (g .leaves) (leaf g b) l h)) in
-      false≢true (sym out ∙ there)
+  -- the i-th fresh block is free, or 0 where there are too few
+  lowest-is : (P : ℕ → Type 0) → P 0 → ((x : ℕ) → FreeBlock g b x → P x) → (i : ℕ) → P (lowest g b i)
+  unfolding lowest
+  lowest-is P none each i = elim (split (length (free g b)) i) [
+    | inl past ↦ rw (List·getD-eq-default (free g b) 0 past) none
+    | inr l ↦ each (getD (free g b) i 0) (free-at g b i l)
+  ]
 
-  inode-live : member (inodeBlock g b) (liveBlocks g b) ≡ true
-  unfolding liveBlocks member
-  inode-live = rw (eq-eqb (inodeBlock g b) (inodeBlock g b) refl)
-
-  lowest-trailer : (i : ℕ) → blockCount g b - 1 ≢ lowest g b i
-  unfolding lowest free
-  lowest-trailer = picked (λ x. blockCount g b - 1 ≢ x) (λ k. not (member k (liveBlocks g b))) (omega (arith, w .rooted .trailer-there)) 1 (blockCount g b - 2)
-      (λ x l u e. omega (arith, w .rooted .trailer-there))
-
-  lowest-inode : (i : ℕ) → inodeBlock g b ≢ lowest g b i
-  unfolding lowest free
-  lowest-inode = picked (λ x. inodeBlock g b ≢ x) (λ k. not (member k (liveBlocks g b))) (omega (arith, w .rooted .inode-there)) 1 (blockCount g b - 2)
-      (λ x l u e z. false≢true (sym (not-true (member x (liveBlocks g b)) e) ∙ rw (← z) inode-live))
-
-  write-clear : Fits g → (f : ℕ) → f < files g → Clear g (lowest g b) b f
-  write-clear fit f l =
-      let which : f / g .inodes < g .leaves = leaf-number g fit f l in
+  -- so on an accepted board growth leaves the trailer and the inode pointer block alone
+  write-clear : T (accepted g b) → (f : ℕ) → f < files g → Clear g (lowest g b) b f
+  write-clear t f l =
+      let ok = facts g fit b t in
+      let which : f / g .inodes < g .leaves = leaf-of g fit f l in
       record {
-        found = file-found g fit b (w .rooted) f l;
-        trailer-stays = lowest-trailer;
-        trailer-leaf = omega (arith, w .rooted .leaves-there (f / g .inodes) which .1);
-        inode-stays = lowest-inode;
-        inode-leaf = leaf-other (f / g .inodes) which;
+        found = file-found (rooted t) f l;
+        trailer-stays = lowest-is (λ x. blockCount g b - 1 ≢ x) (omega (arith, rooted t .trailer-there)) (λ x k. omega (arith, k .1));
+        trailer-leaf = omega (arith, ok .leaf-in (f / g .inodes) which .1);
+        inode-stays = lowest-is (λ x. inodeBlock g b ≢ x) (omega (arith, ok .inode .0)) (λ x k e. omega (arith, inode-live g b, k .2, ap (λ (y : ℕ). occ y (liveBlocks g b)) e));
+        inode-leaf = λ e. inode-not-leaf g b (ok .once) (f / g .inodes) which (sym e);
         pointer-inside = omega (arith, which, fit .leaves-fit);
-        root-inside = omega (arith, mod-lt f (fit .inodes-some), fit .inodes-fit);
+        root-inside = omega (arith, slot g fit f);
       }
 
 -- ---- Two boards
@@ -250,15 +161,15 @@ module _ (g : Layout) (fit : Fits g) {b b′ : List ℕ} (same : Alike (g .words
       let l′ : Bool = every (g .leaves) (leafSound g b′) in
       let f : Bool = every (files g) (fileSound g b) in
       let f′ : Bool = every (files g) (fileSound g b′) in
-      let rooted : l ≡ true → Rooted g b = λ e. record { trailer-there = there; inode-there = inode; leaves-there = leaves-off g b e } in
+      let found-by : l ≡ true → Rooted g b = λ e. record { trailer-there = there; inode-there = inode; leaves-there = leaves-found g b e } in
       and-alike (l && f) (l′ && f′) (distinct (liveBlocks g b)) (distinct (liveBlocks g b′))
       (and-alike l l′ f f′ (λ t. every (g .leaves) (λ j. leaf-sound-alike there inode j t))
-      (λ e. every-cong (files g) (fileSound g b) (fileSound g b′) (λ j u. file-sound-alike g same (file-found g fit b (rooted e) j u))))
-      (λ e t. distinct (live-alike (rooted (true-left l f e)) t))
+      (λ e. every-cong (files g) (fileSound g b) (fileSound g b′) (λ j u. file-sound-alike g same (file-found g fit b (found-by e) j u))))
+      (λ e t. distinct (live-alike (found-by (true-left l f e)) t))
 
-  -- both are refused for the same fault, or b has none
-  board-verdict : (P : Type 0) (more : Faults) → (Whole g b → Verdict more more P) → Verdict (boardFaults g b ++ more) (boardFaults g b′ ++ more) P
-  unfolding boardFaults wordCountFault
+  -- both are refused for the same fault, or b is accepted
+  board-verdict : (P : Type 0) (more : Faults) → (T (accepted g b) → Verdict more more P) → Verdict (boardFaults g b ++ more) (boardFaults g b′ ++ more) P
+  unfolding boardFaults wordCountFault accepted
   board-verdict P more rest =
       let trailers : Bool → Fault × Bool = λ s. (Trailer, not s) in
       let trees : Bool → Fault × Bool = λ s. (Damaged, not s) in
@@ -268,30 +179,30 @@ module _ (g : Layout) (fit : Fits g) {b b′ : List ℕ} (same : Alike (g .words
       let there : 0 < blockCount g b - 1 = trailer-off g fit b (not-false (wordCountSound g b) c) in
       asked Trailer (not (trailerSound g b)) (not (trailerSound g b′)) (trees (treesSound g b) ∷ more) (trees (treesSound g b′) ∷ more)
       (λ t. not (trailer-sound-alike there t)) (λ r.
-      let inode : 0 < inodeBlock g b = inode-off g b (not-false (trailerSound g b) r) in
+      let inode : 0 < inodeBlock g b = inode-range g b (rw (not-false (trailerSound g b) r) tt) .0 in
       asked Damaged (not (treesSound g b)) (not (treesSound g b′)) more more
-      (λ t. not (trees-sound-alike there inode t)) (λ d. rest (whole g b there inode (not-false (treesSound g b) d)))))
+      (λ t. not (trees-sound-alike there inode t)) (λ d. rest (rw (not-false (wordCountSound g b) c, not-false (trailerSound g b) r, not-false (treesSound g b) d) tt))))
 
-  boards : Verdict (boardFaults g b) (boardFaults g b′) (Whole g b)
+  boards : Verdict (boardFaults g b) (boardFaults g b′) (T (accepted g b))
   unfolding boardFaults wordCountFault
-  boards = board-verdict (Whole g b) [] (λ w. passed refl w)
+  boards = board-verdict (T (accepted g b)) [] (λ w. passed refl w)
 
-  file-verdict : (f : ℕ) → Verdict (fileFaults g b f) (fileFaults g b′ f) (Whole g b × f < files g)
+  file-verdict : (f : ℕ) → Verdict (fileFaults g b f) (fileFaults g b′ f) (T (accepted g b) × f < files g)
   unfolding fileFaults
-  file-verdict f = board-verdict (Whole g b × f < files g) ((FileNumber, leb (files g) f) ∷ [])
+  file-verdict f = board-verdict (T (accepted g b) × f < files g) ((FileNumber, leb (files g) f) ∷ [])
       (λ w. asked FileNumber (leb (files g) f) (leb (files g) f) [] [] refl (λ e. passed refl (w, leb-false (files g) f e)))
 
-  free-alike : Whole g b → free g b ≡ free g b′
+  free-alike : T (accepted g b) → free g b ≡ free g b′
   unfolding free
-  free-alike w = λ t. pickFrom 1 (count-alike g same t - 2) (λ k. not (member k (live-alike (w .rooted) t)))
+  free-alike w = λ t. pickFrom 1 (count-alike g same t - 2) (λ k. not (member k (live-alike (rooted g fit b w) t)))
 
   -- ---- Calls
 
   module _ (f : ℕ) where
-    found : Whole g b × f < files g → Found g b f
-    found p = file-found g fit b (p .0 .rooted) f (p .1)
+    found : T (accepted g b) × f < files g → Found g b f
+    found p = file-found g fit b (rooted g fit b (p .0)) f (p .1)
 
-    sizes-alike : Whole g b × f < files g → size g b f ≡ size g b′ f
+    sizes-alike : T (accepted g b) × f < files g → size g b f ≡ size g b′ f
     sizes-alike p = size-alike g same (found p)
 
     reads-alike : (o : ℕ) (out : List ℕ) → (readAnswer g b f o out ≡ readAnswer g b′ f o out) × (readBuffer g b f o out ≡ readBuffer g b′ f o out)
@@ -299,17 +210,17 @@ module _ (g : Layout) (fit : Fits g) {b b′ : List ℕ} (same : Alike (g .words
     reads-alike o out =
         let n : ℕ = readCount g b f o out in
         let n′ : ℕ = readCount g b′ f o out in
-        let counts : Whole g b × f < files g → n ≡ n′ = λ p t. min (length out) (sizes-alike p t - o) in (
+        let counts : T (accepted g b) × f < files g → n ≡ n′ = λ p t. min (length out) (sizes-alike p t - o) in (
           answers-alike (fileFaults g b f) (fileFaults g b′ f) (file-verdict f) n n′ counts,
           left-alike (fileFaults g b f) (fileFaults g b′ f) (file-verdict f) n n′
               (take n (drop o (contents g b f)) ++ drop n out) (take n′ (drop o (contents g b′ f)) ++ drop n′ out) out counts
               (λ p t. take (counts p t) (drop o (contents-alike g same (found p) t)) ++ drop (counts p t) out),
         )
 
-    write-plans : Whole g b × f < files g → (o : ℕ) (new : List ℕ) → writePlan g (lowest g b) b f o new ≡ writePlan g (lowest g b′) b′ f o new
+    write-plans : T (accepted g b) × f < files g → (o : ℕ) (new : List ℕ) → writePlan g (lowest g b) b f o new ≡ writePlan g (lowest g b′) b′ f o new
     unfolding lowest
     write-plans p o new =
-        write-plan-alike g same (lowest g b) f (write-clear g b (p .0) fit f (p .1)) o new ∙ (λ t. writePlan g (λ i. getD (free-alike (p .0) t) i 0) b′ f o new)
+        write-plan-alike g same (lowest g b) f (write-clear g fit b (p .0) f (p .1)) o new ∙ (λ t. writePlan g (λ i. getD (free-alike (p .0) t) i 0) b′ f o new)
 
     write-alike : (o : ℕ) (new slice : List ℕ) → write g b f o new slice ≡ write g b′ f o new slice
     unfolding write writeFaults
