@@ -17,11 +17,12 @@ use Rattle.model.specs.Layout.{Layout}
 use Rattle.model.specs.Tree.{live, seen, ending, span, least, cell}
 use Rattle.model.specs.Board.{blockCount, trailer, inodeBlock, inodePointer, leaf, rootAddress, sizeAddress, root, size, walkTo}
 use Rattle.model.specs.Store.{Store, store, performed}
-use Rattle.model.specs.Plan.{Plan, plan, step, stepEpochs, planEpochs, afterwards}
+use Rattle.model.specs.Plan.{Plan, plan, step, planEpochs, afterwards}
 use Rattle.model.specs.Fresh.{Page, splice, part, partLength, needBefore, dataPage, stored, freshPointer, pointerPage, build}
 use Rattle.model.specs.InPlace.{atBlock, tailBefore, walkLive, tailPages, tailWords, hooked, inPlace}
 use Rattle.model.specs.Change.{levels, levelTop, growthTo, growth, splicedWord, singleBlock, singleWord, isTail, emptyTail, tail, Shadow, descend, shadowInside, leafPage, shadowWithLength, chosenWay, writePlan, cleared, lengthPlan}
 use Rattle.model.proofs.Perform.{All, all-append, length-performed, performed-away, blocks-differ, stored-blocks}
+use Rattle.model.proofs.Steps.{steps-stores}
 use Rattle.model.proofs.Alike.{Alike, performed-alike, Off, off-cond, walk-to-off, cell-alike, link-alike, Found, inode-alike, leaf-alike, address-alike, address-off, root-alike, size-alike, walk-to-alike}
 
 -- ---- Trees
@@ -221,11 +222,6 @@ module _ (g : Layout) {b b′ : List ℕ} (same : Alike (g .words) b b′) {f : 
 
 -- ---- Growth
 
-step-stores : (ss : List Store) (c : Store) → concat (stepEpochs ss c ++ []) ≡ ss ++ (c ∷ [])
-unfolding concat stepEpochs
-step-stores [] c = refl
-step-stores (s ∷ ss) c = refl
-
 -- the stores of a plan
 abbrev storesOf : Plan → List Store
 storesOf p = concat (planEpochs (p .steps))
@@ -233,13 +229,13 @@ storesOf p = concat (planEpochs (p .steps))
 -- growth stores to fresh blocks and to the root word
 module _ (g : Layout) (fresh : ℕ → ℕ) (b : List ℕ) (f : ℕ) (P : ℕ → Type 0) (blocks : (i j : ℕ) → j < g .words → P (g .words * fresh i + j)) (word : P (rootAddress g b f)) where
   growth-to-stores : (h : ℕ) → All (λ s. P (s .at)) (storesOf (growthTo g fresh b f h))
-  unfolding growthTo plan step planEpochs store All
+  unfolding growthTo plan step planEpochs concat store All
   growth-to-stores h =
       let d : ℕ = h - root g b f % g .words in
       let k : ℕ = root g b f / g .words in
       let ps : List Page = levels (g .words) fresh k d in
       let c : Store = store (rootAddress g b f) (g .words * levelTop fresh k d + h) in
-      rw (step-stores (stored (g .words) fresh ps 0) c)
+      rw (steps-stores (step (stored (g .words) fresh ps 0) (c .at) (c .value)) [])
       (all-append (λ s. P (s .at)) (stored (g .words) fresh ps 0) (c ∷ []) (stored-blocks (g .words) fresh P ps 0 (λ i j u v l. blocks i j l)) (word, tt))
 
   growth-stores : (e : ℕ) → All (λ s. P (s .at)) (storesOf (growth g fresh b f e))

@@ -55,16 +55,19 @@ module _ (g : Layout) (b : List ℕ) (f : ℕ) where
 
 -- ---- The board that they leave
 
-performed-step : (b : List ℕ) (ss : List Store) (c : Store) (es : List (List Store))
-    → performed b (concat (stepEpochs ss c ++ es)) ≡ performed (set (performed b ss) (c .at) (c .value)) (concat es)
-unfolding performed concat stepEpochs
-performed-step b [] c es = refl
-performed-step b (s ∷ ss) c es = performed-append b (s ∷ ss) (c ∷ concat es)
+-- the stores of a step, and of those after it
+pub steps-stores : (p : Step) (ps : List Step) → concat (planEpochs (p ∷ ps)) ≡ p .hidden ++ (p .commit ∷ concat (planEpochs ps))
+unfolding planEpochs stepEpochs concat
+steps-stores p ps = by (p .hidden) (p .commit)
+  where
+    by : (ss : List Store) (c : Store) → concat (stepEpochs ss c ++ planEpochs ps) ≡ ss ++ (c ∷ concat (planEpochs ps))
+    by [] c = refl
+    by (s ∷ ss) c = refl
 
 pub performed-steps : (b : List ℕ) (ps : List Step) → performed b (concat (planEpochs ps)) ≡ allCommitted b ps
 unfolding performed concat planEpochs committed allCommitted
 performed-steps b [] = refl
-performed-steps b (p ∷ ps) = performed-step b (p .hidden) (p .commit) (planEpochs ps) ∙ performed-steps (committed b p) ps
+performed-steps b (p ∷ ps) = rw (steps-stores p ps) (performed-append b (p .hidden) (p .commit ∷ concat (planEpochs ps)) ∙ performed-steps (committed b p) ps)
 
 pub left-steps : (b : List ℕ) (ps : List Step) → left b (planEpochs ps) (length (planEpochs ps)) ≡ allCommitted b ps
 unfolding left

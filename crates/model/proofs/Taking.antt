@@ -10,7 +10,7 @@ use Rattle.model.specs.Layout.{Layout, files}
 use Rattle.model.specs.Tree.{blocks}
 use Rattle.model.specs.Board.{liveBlocks, rootBlocks, rootAddress, root, size, fileBlocks}
 use Rattle.model.specs.Store.{Store, store}
-use Rattle.model.specs.Plan.{Step, stepEpochs, planEpochs}
+use Rattle.model.specs.Plan.{Step, planEpochs}
 use Rattle.model.specs.Fresh.{Page, stored}
 use Rattle.model.specs.InPlace.{inPlace}
 use Rattle.model.proofs.Counting.{one, occ, one-other, occ-append}
@@ -19,6 +19,7 @@ use Rattle.model.proofs.Addresses.{used-first, all-map}
 use Rattle.model.proofs.Built.{used}
 use Rattle.model.proofs.InPlaceStores.{in-place-blocks}
 use Rattle.model.proofs.Shown.{file-live}
+use Rattle.model.proofs.Steps.{steps-stores}
 
 -- the blocks that stores go to
 abbrev pub blocksOf : Layout → List Store → List ℕ
@@ -85,18 +86,9 @@ module _ (g : Layout) (pos : 0 < g .words) (fresh : ℕ → ℕ) (q : ℕ) where
         live-blocks-of b (p .commit ∷ []) z (t .commit-live, tt),
       ))
 
-  -- the stores of a step's epochs, and of those after it
-  step-stores : (s : Step) (ps : List Step) → concat (planEpochs (s ∷ ps)) ≡ s .hidden ++ (s .commit ∷ concat (planEpochs ps))
-  unfolding planEpochs stepEpochs concat
-  step-stores s ps = by (s .hidden) (s .commit)
-    where
-      by : (ss : List Store) (c : Store) → concat (stepEpochs ss c ++ planEpochs ps) ≡ ss ++ (c ∷ concat (planEpochs ps))
-      by [] c = refl
-      by (x ∷ ss) c = refl
-
   pub steps-blocks : (s : Step) (ps : List Step) → occ q (blocksOf g (concat (planEpochs (s ∷ ps)))) ≡ occ q (blocksOf g (s .hidden ++ (s .commit ∷ []))) + occ q (blocksOf g (concat (planEpochs ps)))
   unfolding occ
-  steps-blocks s ps = rw (step-stores s ps) (omega (
+  steps-blocks s ps = rw (steps-stores s ps) (omega (
     arith,
     blocks-append (s .hidden) (s .commit ∷ concat (planEpochs ps)),
     blocks-append (s .hidden) (s .commit ∷ []),
