@@ -5,7 +5,7 @@ use mathlib.Core.List.{List}
 use Prim.Native.Nat.{ℕ, _-_, _%_, _≤_}
 use native.Mathlib.Omega.{arith}
 use lib.ListN.{length, replicate}
-use lib.Dec.{leb, eqb}
+use lib.Dec.{leb, eqb, lit<}
 use borrow.Author.Tests.{leb-true}
 use Rattle.model.specs.declared.Fault.{Fault}
 use Rattle.model.specs.declared.Fault.the-variants.{WordCount, Trailer, Damaged}
@@ -42,7 +42,7 @@ module _ (b : List ℕ) where
   module _ (w : wordCountSound house b ≡ true) (t : trailerSound house b ≡ true) where
     within : inodesSound ≡ true → below 1024 (liveBlocks house b) ≡ true
     unfolding files
-    within s = below-more (blockCount house b - 1) 1024 (liveBlocks house b) (short w) (live-below house b t s)
+    within s = below-more (blockCount house b - 1) 1024 (liveBlocks house b) (short w) (live-below house b (lit< tt) t s)
 
     -- what the marks find is what the definition asks
     accept : (pointersSound b && unmarked (replicate 1024 0) (liveBlocks house b)) ≡ treesSound house b

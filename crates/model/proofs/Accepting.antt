@@ -1,4 +1,5 @@
 -- What it says of a board that it is accepted, as facts on numbers.
+use mathlib.Core.Path.{_≡_}
 use mathlib.Core.Logic.{inl, inr}
 use mathlib.Core.Bool.{Bool, _&&_}
 use mathlib.Core.List.{List}
@@ -14,7 +15,7 @@ use Rattle.model.specs.Board.{rootSound, trailerWord, greatest, blockCou
 use Rattle.model.proofs.Cases.{split, and-left, and-right, and-both, every-of, every-all}
 use Rattle.model.proofs.Counting.{occ, distinct-occ, occ-distinct}
 use Rattle.model.proofs.Perform.{block-on}
-use Rattle.model.proofs.Agree.{sound-none}
+use Rattle.model.proofs.Trees.{sound-dead}
 use Rattle.model.proofs.Shown.{words-pos}
 use Rattle.model.proofs.Formatted.{Counted, counted}
 
@@ -84,6 +85,13 @@ module _ (g : Layout) (b : List ℕ) where
       let v : Bool = rootSound (g .words) b (g .height) (blockCount g b - 1) (root g b f) (size g b f) in
       (leb→le (size g b f) (greatest g) (and-left u v t), and-right u v t)
 
+  -- the tree of a sound file is sound
+  pub file-tree : (f : ℕ) → T (fileSound g b f) → T (sound (g .words) b (blockCount g b - 1) (root g b f % g .words) (root g b f / g .words) (size g b f))
+  file-tree f t = elim (split (size g b f) 0) [
+    | inl z ↦ let e : size g b f ≡ 0 = omega arith in rw (e, sound-dead (g .words) b (blockCount g b - 1) (root g b f % g .words) (root g b f / g .words)) tt
+    | inr live ↦ root-sound-parts (g .height) (blockCount g b - 1) (root g b f) (size g b f) live (file-parts f t .1) .1
+  ]
+
   pub inode-range : T (trailerSound g b) → Ranged g b (inodeBlock g b)
   unfolding trailerSound
   inode-range t =
@@ -116,10 +124,7 @@ module _ (g : Layout) (fit : Fits g) (b : List ℕ) where
         leaf-in = λ l u. leaf-range g b l (a .leaves l u);
         most = λ f u. file-parts g b f (a .files-sound f u) .0;
         low = λ f u live. root-sound-parts g b (g .height) (blockCount g b - 1) (root g b f) (size g b f) live (file-parts g b f (a .files-sound f u) .1) .0;
-        tree = λ f u. elim (split (size g b f) 0) [
-          | inl z ↦ rw (sound-none (g .words) (words-pos g fit) (blockCount g b - 1) b (root g b f % g .words) (root g b f / g .words) (size g b f) (omega arith)) tt
-          | inr live ↦ root-sound-parts g b (g .height) (blockCount g b - 1) (root g b f) (size g b f) live (file-parts g b f (a .files-sound f u) .1) .1
-        ];
+        tree = λ f u. file-tree g b f (a .files-sound f u);
         once = a .once;
       }
 

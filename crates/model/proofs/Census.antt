@@ -13,7 +13,6 @@ use Rattle.model.specs.Board.{blockCount, liveBlocks, free}
 use Rattle.model.specs.Claims.{CensusRule}
 use Rattle.model.proofs.Cases.{split, decide, either}
 use Rattle.model.proofs.Counting.{occ, one-same, member-none, member-some}
-use Rattle.model.proofs.Live.{below}
 use Rattle.model.proofs.Accepting.{Facts, facts}
 use Rattle.model.proofs.Ranges.{live-range}
 

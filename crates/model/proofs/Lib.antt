@@ -13,7 +13,6 @@ pub mod Refusals
 pub mod Epochs
 -- Trees: one level at a time, where their blocks lie, walks, boards that agree on a tree; what a tree becomes by each kind of change
 pub mod Trees
-pub mod Live
 pub mod Walks
 pub mod Agree
 pub mod Splice
@@ -29,6 +28,7 @@ pub mod Shown
 pub mod Formatted
 pub mod Accepting
 pub mod Ranges
+pub mod Live
 pub mod Census
 pub mod Visible
 pub mod Commits
