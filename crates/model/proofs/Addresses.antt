@@ -9,7 +9,7 @@ use native.Mathlib.Nat.{zero-add}
 use lib.ListN.{length, getD, set, length-set}
 use lib.Seq.{getD-set-same, getD-set-other}
 use lib.Dec.{T}
-use Rattle.model.specs.Lists.{tabulate, joined, sum, all}
+use Rattle.model.specs.Lists.{tabulate, joined, sum, all, concat}
 use Rattle.model.specs.Tree.{cell}
 use Rattle.model.specs.Store.{Store, store, performed}
 use Rattle.model.specs.Fresh.{Page, stored}
@@ -52,6 +52,11 @@ module _ {A : Type 0} (P : A → Type 0) where
     | inl e ↦ subst (λ (x : ℕ). P (f x)) e (all-right (tabulate m f) (f m ∷ []) p .0)
     | inr n ↦ tabulate-at m f (all-left (tabulate m f) (f m ∷ []) p) j (omega arith)
   ]
+
+pub all-concat : {A : Type 0} (P : A → Type 0) (xss : List (List A)) → All (All P) xss → All P (concat xss)
+unfolding All concat
+all-concat P [] h = tt
+all-concat P (xs ∷ xss) h = all-append P xs (concat xss) (h .0) (all-concat P xss (h .1))
 
 pub all-map : {A : Type 0} (P Q : A → Type 0) → ((x : A) → P x → Q x) → (xs : List A) → All P xs → All Q xs
 unfolding All

@@ -18,6 +18,7 @@ use Rattle.model.specs.Tree.{ending, span, aligned, cell, link, walk, sh
 use Rattle.model.specs.Board.{rootWalk, rootBlocks, rootSound, greatest, blockCount, trailer, inodeBlock, inodePointer, leaf, rootAddress, sizeAddress, root, size, walkTo, contents, fileBlocks, fileSound}
 use Rattle.model.specs.Store.{Store, performed}
 use Rattle.model.proofs.Cases.{split, decide}
+use Rattle.model.proofs.Shown.{count-kept}
 
 pub record Alike (W : ℕ) (b b′ : List ℕ) : Type 0 where
   pub lengths : length b ≡ length b′
@@ -132,8 +133,7 @@ pub record Found (g : Layout) (b : List ℕ) (f : ℕ) : Type 0 where
 
 module _ (g : Layout) {b b′ : List ℕ} (same : Alike (g .words) b b′) where
   pub count-alike : blockCount g b ≡ blockCount g b′
-  unfolding blockCount
-  count-alike = λ t. same .lengths t / g .words
+  count-alike = count-kept g b b′ (same .lengths)
 
   module _ (there : 0 < blockCount g b - 1) where
     pub trailer-alike : (j : ℕ) → trailer g b j ≡ trailer g b′ j

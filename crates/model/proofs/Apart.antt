@@ -1,6 +1,6 @@
 -- On an accepted board no block is reached twice: the inode pointer block, the leaves and the files' blocks are apart. So a store to an inode or to the tree
 -- of one file is not seen elsewhere.
-use mathlib.Core.Path.{_≡_, sym, ap, ap₂, _∙_, subst}
+use mathlib.Core.Path.{_≡_, sym, ap, ap₂, _∙_}
 use mathlib.Core.Logic.{_≢_, _⊎_, inl, inr}
 use mathlib.Core.List.{List}
 use Prim.Native.Nat.{ℕ, _+_, _-_, _*_, _/_, _%_, _≤_, _<_}
@@ -13,7 +13,7 @@ use Rattle.model.specs.Tree.{cell}
 use Rattle.model.specs.Board.{blockCount, trailer, inodeBlock, inodePointer, leaf, rootAddress, sizeAddress, root, size, rootBlocks, fileBlocks, liveBlocks}
 use Rattle.model.proofs.Cases.{decide}
 use Rattle.model.proofs.Sums.{sum-at, sum-two}
-use Rattle.model.proofs.Counting.{one, occ, one-same}
+use Rattle.model.proofs.Counting.{one, occ, one-same, one-apart}
 use Rattle.model.proofs.Agree.{agree-away, cell-away, agree}
 use Rattle.model.proofs.Shown.{words-pos, occ-live, leaf-live, file-live, leaf-of, count-kept, inode-block-of, root-block, size-block, Same}
 use Rattle.model.proofs.Accepting.{Facts, Ranged, address-on-board}
@@ -23,9 +23,6 @@ use Rattle.model.proofs.Commits.{Others}
 -- ---- Blocks
 
 module _ (g : Layout) (b : List ℕ) (once : (q : ℕ) → occ q (liveBlocks g b) ≤ 1) where
-  one-apart : (q x : ℕ) → one q x ≡ 0 → q ≢ x
-  one-apart q x e d = omega (arith, one-same q, subst (λ (y : ℕ). one q y ≡ 0) (sym d) e)
-
   pub inode-not-leaf : (l : ℕ) → l < g .leaves → leaf g b l ≢ inodeBlock g b
   inode-not-leaf l u = let q : ℕ = leaf g b l in
       one-apart q (inodeBlock g b) (omega (arith, once q, occ-live g b q, one-same q, sum-at (g .leaves) (λ i. one q (leaf g b i)) l u))

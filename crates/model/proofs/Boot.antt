@@ -25,7 +25,7 @@ use Rattle.model.specs.Cut.{Change, writing, lengthTo, called}
 use Rattle.model.specs.Claims.{SameCalls, BootRule}
 use Rattle.model.proofs.Cases.{true-left, every-cong, joined-cong, every-of, split}
 use Rattle.model.proofs.Counting.{occ}
-use Rattle.model.proofs.Shown.{leaf-of, slot, inode-live}
+use Rattle.model.proofs.Shown.{leaf-of, slot, inode-live, words-kept}
 use Rattle.model.proofs.Formatted.{counted}
 use Rattle.model.proofs.Accepting.{Ranged, inode-range, leaf-range, facts}
 use Rattle.model.proofs.Census.{FreeBlock, free-at}
@@ -132,8 +132,7 @@ module _ (g : Layout) (fit : Fits g) (b : List ℕ) where
 
 module _ (g : Layout) (fit : Fits g) {b b′ : List ℕ} (same : Alike (g .words) b b′) where
   word-count-alike : wordCountSound g b ≡ wordCountSound g b′
-  unfolding wordCountSound
-  word-count-alike = λ t. let l : ℕ = same .lengths t in leb (16 * g .words) l && leb l (g .most * g .words) && eqb (l % g .words) 0
+  word-count-alike = words-kept g b b′ (same .lengths)
 
   range-alike : (k k′ : ℕ) → k ≡ k′ → inRange g b k ≡ inRange g b′ k′
   unfolding inRange

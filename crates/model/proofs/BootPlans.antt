@@ -22,6 +22,7 @@ use Rattle.model.specs.Fresh.{Page, splice, part, partLength, needBefore
 use Rattle.model.specs.InPlace.{atBlock, tailBefore, walkLive, tailPages, tailWords, hooked, inPlace}
 use Rattle.model.specs.Change.{levels, levelTop, growthTo, growth, splicedWord, singleBlock, singleWord, isTail, emptyTail, tail, Shadow, descend, shadowInside, leafPage, shadowWithLength, chosenWay, writePlan, cleared, lengthPlan}
 use Rattle.model.proofs.Perform.{All, all-append, length-performed, performed-away, blocks-differ, stored-blocks}
+use Rattle.model.proofs.Shown.{count-kept}
 use Rattle.model.proofs.Steps.{steps-stores}
 use Rattle.model.proofs.Alike.{Alike, performed-alike, Off, off-cond, walk-to-off, cell-alike, link-alike, Found, inode-alike, leaf-alike, address-alike, address-off, root-alike, size-alike, walk-to-alike}
 
@@ -267,8 +268,8 @@ module _ (g : Layout) (fresh : ℕ → ℕ) (b : List ℕ) (f : ℕ) (clear : Cl
       (blocks-differ (g .words) k (leaf g b (f / g .inodes)) j (2 * (f % g .inodes)) l (clear .root-inside) lf) e)
 
   count-stays : blockCount g grown ≡ blockCount g b
-  unfolding grown blockCount
-  count-stays = rw (length-performed b (storesOf (growth g fresh b f e)))
+  unfolding grown
+  count-stays = count-kept g grown b (length-performed b (storesOf (growth g fresh b f e)))
 
   inode-block-stays : inodeBlock g grown ≡ inodeBlock g b
   unfolding inodeBlock trailer

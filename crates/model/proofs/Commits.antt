@@ -10,7 +10,7 @@ use lib.Dec.{T, leb, le→leb}
 use Rattle.model.specs.Lists.{tabulate, sum}
 use Rattle.model.specs.Layout.{Layout, Fits, files}
 use Rattle.model.specs.Tree.{seen, span, blocks, sound}
-use Rattle.model.specs.Board.{rootBlocks, rootSound, greatest, blockCount, inodeBlock, leaf, root, size, contents, fileBlocks, liveBlocks, wordCountSound, trailerSound, leafSound, fileSound, accepted}
+use Rattle.model.specs.Board.{rootBlocks, rootSound, greatest, blockCount, inodeBlock, leaf, root, size, contents, fileBlocks, liveBlocks, trailerSound, leafSound, fileSound, accepted}
 use Rattle.model.specs.Fresh.{splice}
 use Rattle.model.proofs.Cases.{split, decide, and-both, tabulate-cong}
 use Rattle.model.proofs.Sums.{sum-le, sum-add, only, only-same, sum-only}
@@ -18,7 +18,7 @@ use Rattle.model.proofs.Counting.{one, occ}
 use Rattle.model.proofs.Agree.{byteAt, agree, agree-none, agree-trans, seen-live, seen-dead, blocks-none, byteAt-past}
 use Rattle.model.proofs.Changed.{Changed}
 use Rattle.model.proofs.Grown.{Grown}
-use Rattle.model.proofs.Shown.{Same, rootByte, root-byte-in, root-byte-past, contents-bytes, root-blocks, root-byte, root-sound, words-pos, occ-live, count-kept}
+use Rattle.model.proofs.Shown.{Same, rootByte, root-byte-in, root-byte-past, contents-bytes, root-blocks, root-byte, root-sound, words-pos, occ-live, count-kept, words-kept}
 use Rattle.model.proofs.Accepting.{accepted-parts, parts-accepted, file-parts, root-sound-parts}
 
 -- file f is sound on b₂, reads `wanted`, and has its blocks of b and at most the extra ones
@@ -42,10 +42,6 @@ pub record Commit (g : Layout) (b b₂ : List ℕ) (wanted : ℕ → List ℕ) (
   pub spare : (q : ℕ) → occ q (liveBlocks g b) + above q + sum (g .leaves) (λ l. beside l q) + sum (files g) (λ f. within f q) ≤ 1
 
 module _ (g : Layout) (b b₂ : List ℕ) where
-  same-words : length b ≡ length b₂ → wordCountSound g b ≡ wordCountSound g b₂
-  unfolding wordCountSound
-  same-words e = rw e
-
   -- the live blocks are those of b and at most the extra ones
   pub commit-counts : {wanted : ℕ → List ℕ} {above : ℕ → ℕ} {beside within : ℕ → ℕ → ℕ} → Commit g b b₂ wanted above beside within
       → (q : ℕ) → occ q (liveBlocks g b₂) ≤ occ q (liveBlocks g b) + above q + sum (g .leaves) (λ l. beside l q) + sum (files g) (λ f. within f q)
@@ -62,7 +58,7 @@ module _ (g : Layout) (b b₂ : List ℕ) where
 
   pub commit-accepted : {wanted : ℕ → List ℕ} {above : ℕ → ℕ} {beside within : ℕ → ℕ → ℕ} → Commit g b b₂ wanted above beside within → T (accepted g b) → T (accepted g b₂)
   commit-accepted c t = parts-accepted g b₂ (record {
-    words = rw (← (same-words (c .lengths))) (accepted-parts g b t .words);
+    words = rw (← (words-kept g b b₂ (c .lengths))) (accepted-parts g b t .words);
     trailers = c .trailers;
     leaves = c .leaves;
     files-sound = λ f u. c .all-files f u .sound;

@@ -1,6 +1,6 @@
 -- Counting how often a number occurs. 'No block is reached twice' is that none occurs more than once; counts add up over lists and loops.
 use mathlib.Core.Path.{_≡_, refl, sym, subst}
-use mathlib.Core.Logic.{_≢_, inl, inr}
+use mathlib.Core.Logic.{_≢_, inl, inr, _↔_}
 use mathlib.Core.Bool.{true, false, not}
 use mathlib.Core.List.{List, [], _∷_, _++_}
 use Prim.Native.Nat.{ℕ, zero, suc, _+_, _≤_, _<_}
@@ -27,6 +27,16 @@ one-same q = rw (eq-eqb q q refl, one)
 pub one-other : (q x : ℕ) → q ≢ x → one q x ≡ 0
 unfolding one
 one-other q x h = rw (ne-eqb q x h, one)
+
+pub one-most : (q x : ℕ) → one q x ≤ 1
+one-most q x = elim (decide q x) [ inl e ↦ rw e (omega (arith, one-same x)) | inr d ↦ omega (arith, one-other q x d) ]
+
+-- what is counted is equal, and what is not is not
+pub one-some : (q x : ℕ) → 0 < one q x → q ≡ x
+one-some q x l = elim (decide q x) [ inl e ↦ e | inr d ↦ absurd (omega (arith, one-other q x d)) ]
+
+pub one-apart : (q x : ℕ) → one q x ≡ 0 → q ≢ x
+one-apart q x e d = omega (arith, one-same q, subst (λ (y : ℕ). one q y ≡ 0) (sym d) e)
 
 pub occ-append : (q : ℕ) (l r : List ℕ) → occ q (l ++ r) ≡ occ q l + occ q r
 unfolding occ
@@ -77,6 +87,13 @@ unfolding distinct occ
 occ-distinct [] h = tt
 occ-distinct (x ∷ xs) h =
     and-both (not (member x xs)) (distinct xs) (rw (member-none x xs (omega (arith, h x, one-same x))) tt) (occ-distinct xs (λ q. omega (arith, h q)))
+
+-- a member is met, and what is met is a member
+pub member-occ : (q : ℕ) (l : List ℕ) → T (member q l) ↔ (0 < occ q l)
+member-occ q l = (
+  λ t. elim (split (occ q l) 0) [ inl z ↦ let e : occ q l ≡ 0 = omega arith in absurd (rw (member-none q l e) at t) | inr m ↦ m ],
+  λ m. rw (member-some q l m) tt,
+)
 
 -- a number that a loop never meets is not counted
 pub sum-none : (q n : ℕ) (f : ℕ → ℕ) → ((j : ℕ) → j < n → q ≢ f j) → sum n (λ j. one q (f j)) ≡ 0

@@ -219,7 +219,7 @@ pub standing-epochs : (ss : List Store) (es : List (List Store)) (x : Cut) (b : 
 unfolding standing
 standing-epochs ss es x b e = rw e
 
--- without pairs the lent board stands
-pub standing-none : (x : Cut) (b : List ℕ) → standing [] x b ≡ b
-unfolding standing epochs concat chosen performed
-standing-none x b = rw (take-nil {A = List Store} (x .epoch))
+-- without epochs the lent board stands
+pub standing-none : (ss : List Store) → epochs ss ≡ [] → (x : Cut) (b : List ℕ) → standing ss x b ≡ b
+unfolding standing concat performed chosen
+standing-none ss none x b = rw (none, take-nil {A = List Store} (x .epoch))

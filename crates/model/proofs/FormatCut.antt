@@ -1,6 +1,6 @@
 -- Format's plan is shaped as plans must be and stores nothing to block 0; a cut inside it leaves the lent board, a board whose trailer word 0 is 0,
 -- or empty files.
-use mathlib.Core.Path.{_≡_, sym, _∙_}
+use mathlib.Core.Path.{_≡_, refl, sym, _∙_}
 use mathlib.Core.Logic.{_≢_, _⊎_, inl, inr}
 use mathlib.Core.Bool.{Bool, true, false}
 use mathlib.Core.List.{List, [], _∷_, _++_, append-nil}
@@ -168,11 +168,11 @@ format-plan-rule g fit b ok slice = elim (planned-either (wordCountFault g b) (p
 ]
 
 pub format-rule : FormatRule
-unfolding format
+unfolding format epochs
 format-rule g fit b ok slice x names = elim (planned-either (wordCountFault g b) (pairs (formatPlan g b)) slice) [
   | inl a ↦
       let es : epochs (pairs (formatPlan g b)) ≡ formatEpochs g b = plan-epochs g fit b ok in
       let named : x .epoch < 3 = rw (a .plans, es) at names in
       rw (a .plans, standing-epochs (pairs (formatPlan g b)) (formatEpochs g b) x b es) (cut-at g fit b ok (x .epoch) (x .arrived) named)
-  | inr r ↦ inl (rw (r .plans) (standing-none x b))
+  | inr r ↦ inl (rw (r .plans) (standing-none [] refl x b))
 ]

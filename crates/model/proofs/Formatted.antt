@@ -23,7 +23,7 @@ use Rattle.model.proofs.Cases.{decide, and-left, and-right, and-both, e
 use Rattle.model.proofs.Counting.{occ, one-same, one-other, occ-append, occ-tabulate, occ-distinct, sum-none, sum-once}
 use Rattle.model.proofs.Perform.{All, Plain, all-append, all-tabulate, length-tabulate, length-performed, performed-append, performed-away, performed-tabulate, stores-fenced, address-block, block-on, blocks-differ, length-stored, stored-blocks, stored-cell}
 use Rattle.model.proofs.Trees.{blocks-dead}
-use Rattle.model.proofs.Shown.{count-kept}
+use Rattle.model.proofs.Shown.{count-kept, words-kept}
 
 -- a board whose word count is in order
 pub record Counted (g : Layout) (b : List ℕ) : Type 0 where
@@ -132,8 +132,7 @@ module _ (g : Layout) (fit : Fits g) (b b′ : List ℕ) (ok : T (wordCountSound
       live-distinct
 
   word-count-sound : T (wordCountSound g b′)
-  unfolding wordCountSound
-  word-count-sound = rw (p .lengths) ok
+  word-count-sound = rw (words-kept g b′ b (p .lengths)) ok
 
   pub formatted-empty : Empty g b′
   unfolding accepted contents tabulate

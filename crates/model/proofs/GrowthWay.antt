@@ -1,7 +1,7 @@
 -- Growth, the first step of a write that ends past its tree's span, is a good step: the file reads as before. On the board that it leaves the tree spans
 -- the write, and the fresh blocks that it did not take are still not live.
 use mathlib.Core.Path.{_≡_, refl, sym, ap, subst, _∙_}
-use mathlib.Core.Logic.{inl, inr}
+use mathlib.Core.Logic.{inl}
 use mathlib.Core.Bool.{true, and-false}
 use mathlib.Core.List.{List, [], _∷_, append-nil}
 use Prim.Native.Nat.{ℕ, zero, suc, _+_, _-_, _*_, _/_, _%_, _≤_, _<_}
@@ -18,9 +18,8 @@ use Rattle.model.specs.Store.{Store, store, performed}
 use Rattle.model.specs.Plan.{Step, step, plan, planEpochs}
 use Rattle.model.specs.Fresh.{Page, stored}
 use Rattle.model.specs.Change.{levels, levelTop, growthTo, growth}
-use Rattle.model.proofs.Cases.{split}
 use Rattle.model.proofs.Counting.{occ}
-use Rattle.model.proofs.Spans.{span-mono, least-reaches, least-within}
+use Rattle.model.proofs.Spans.{least-reaches, least-within, least-above}
 use Rattle.model.proofs.Perform.{All, address-block}
 use Rattle.model.proofs.Addresses.{used-none}
 use Rattle.model.proofs.Agree.{agree, agree-away, agree-blocks, agree-trans}
@@ -88,13 +87,6 @@ module _ (g : Layout) (fit : Fits g) (fresh : ℕ → ℕ) (b : List ℕ) (f h :
   }
 
 -- ---- The step
-
--- a height that is not sufficient is no higher than the least that is
-least-above : (W : ℕ) → 0 < W → (h e x : ℕ) → e ≤ span W h → span W x < e → x ≤ least W h e
-least-above W pos h e x reach more = elim (split x (least W h e)) [
-  | inl l ↦ l
-  | inr l ↦ absurd (omega (arith, least-reaches W pos h e reach, span-mono W pos (least W h e) x (omega arith)))
-]
 
 module _ (g : Layout) (fit : Fits g) (b : List ℕ) (t : T (accepted g b)) (f : ℕ) (f-lt : f < files g) (some : 0 < size g b f) (fresh : ℕ → ℕ) (lim : ℕ) (supply : Supply g b fresh 0 lim)
     (e : ℕ) (most : e ≤ greatest g) (more : span (g .words) (root g b f % g .words) < e) where

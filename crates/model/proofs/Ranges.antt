@@ -1,5 +1,4 @@
 -- Where the live blocks and the roots of an accepted board lie.
-use mathlib.Core.Path.{_≡_}
 use mathlib.Core.Logic.{inl, inr}
 use mathlib.Core.List.{List}
 use Prim.Native.Nat.{ℕ, zero, suc, _-_, _*_, _/_, _%_, _<_}
@@ -11,17 +10,11 @@ use Rattle.model.specs.Tree.{span, cell, link, blocks, sound}
 use Rattle.model.specs.Board.{rootBlocks, blockCount, inodeBlock, leaf, root, size, fileBlocks, liveBlocks}
 use Rattle.model.proofs.Cases.{split, decide}
 use Rattle.model.proofs.Sums.{sum-some}
-use Rattle.model.proofs.Counting.{one, occ, one-other, occ-joined}
+use Rattle.model.proofs.Counting.{one, occ, one-other, occ-joined, one-some}
 use Rattle.model.proofs.Trees.{childBlocks}
 use Rattle.model.proofs.Agree.{sound-root, sound-child}
 use Rattle.model.proofs.Shown.{words-pos, occ-live}
 use Rattle.model.proofs.Accepting.{Ranged, Facts}
-
-one-some : (x y : ℕ) → 0 < one x y → x ≡ y
-one-some x y o = elim (decide x y) [
-  | inl e ↦ e
-  | inr d ↦ absurd (omega (arith, one-other x y d))
-]
 
 -- the blocks of a tree whose pointers are as they must be
 module _ (W : ℕ) (pos : 0 < W) (b : List ℕ) (top : ℕ) where

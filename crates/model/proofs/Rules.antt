@@ -24,7 +24,7 @@ use Rattle.model.specs.Cut.{Change, writing, lengthTo, fileOf, called, p
 use Rattle.model.specs.Claims.{Shaped, CutSafe, Altered, PlanRule, PowerCutRule, AccuracyRule}
 use Rattle.model.proofs.Counting.{occ, occ-distinct}
 use Rattle.model.proofs.Perform.{All, all-append, length-performed, Plain, stores-fenced}
-use Rattle.model.proofs.Addresses.{addresses, all-left, all-right, all-map, all-holds}
+use Rattle.model.proofs.Addresses.{addresses, all-left, all-right, all-map, all-holds, all-concat}
 use Rattle.model.proofs.Epochs.{Full, epochs-fenced, shaped, shaped-none, Passed, Refusing, planned-either}
 use Rattle.model.proofs.Splice.{bytes-small}
 use Rattle.model.proofs.Shown.{count-kept}
@@ -55,11 +55,6 @@ module _ (g : Layout) (f : ℕ) (wanted : List ℕ) where
 length-committed : (b : List ℕ) (p : Step) → length (committed b p) ≡ length b
 unfolding committed
 length-committed b p = length-set (performed b (p .hidden)) (p .commit .at) (p .commit .value) ∙ length-performed b (p .hidden)
-
-all-concat : {A : Type 0} (P : A → Type 0) (xss : List (List A)) → All (All P) xss → All P (concat xss)
-unfolding All concat
-all-concat P [] h = tt
-all-concat P (xs ∷ xss) h = all-append P xs (concat xss) (h .0) (all-concat P xss (h .1))
 
 -- the store goes to one of blocks 1 to B − 2
 abbrev Inside : Layout → List ℕ → Store → Type 0

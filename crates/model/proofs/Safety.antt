@@ -6,7 +6,6 @@ use mathlib.Core.List.{List, [], _∷_}
 use Prim.Native.Nat.{ℕ, zero, suc, _≤_, _<_}
 use native.Mathlib.Omega.{arith}
 use lib.ListN.{length, getD, take}
-use lib.Seq.{take-nil}
 use lib.Dec.{T}
 use borrow.Author.Tests.{lt-ltb, le-ltb, eq-eqb, ne-eqb}
 use Rattle.model.specs.Lists.{all, consIf, concat}
@@ -19,6 +18,7 @@ use Rattle.model.specs.Safe.{left, SafePlan, decided}
 use Rattle.model.specs.Claims.{Shows, CutSafe, SafeRule}
 use Rattle.model.proofs.Cases.{decide, split}
 use Rattle.model.proofs.Perform.{performed-append}
+use Rattle.model.proofs.Epochs.{standing-none}
 use Rattle.model.proofs.HiddenStores.{hidden-rule}
 
 -- what does not change from one number to the next, from i to j
@@ -224,16 +224,12 @@ epochs-some [] l = l
 epochs-some (s ∷ ss) l = omega arith
 
 module _ (ss : List Store) (none : epochs ss ≡ []) (b : List ℕ) where
-  standing-none : (x : Cut) → standing ss x b ≡ b
-  unfolding standing concat performed chosen
-  standing-none x = rw (none, take-nil {A = List Store} (x .epoch))
-
   left-none : left b (epochs ss) (length (epochs ss)) ≡ b
   left-none = rw none (left-zero b [])
 
   -- a cut leaves the board, whatever is said to have arrived
   pub none-safe : (g : Layout) → T (accepted g b) → (f : ℕ) (x : Cut) (arrived : Bool) → CutSafe g b (standing ss x b) f (contents g b f) ss arrived
-  none-safe g ok f x arrived = rw (standing-none x) record {
+  none-safe g ok f x arrived = rw (standing-none ss none x b) record {
     board = ok;
     wholly = inl refl;
     others = λ e l n. refl;

@@ -141,6 +141,10 @@ module _ (g : Layout) (b b′ : List ℕ) (len : length b ≡ length b′) where
   unfolding blockCount
   count-kept = ap (λ (x : ℕ). x / g .words) len
 
+  pub words-kept : wordCountSound g b ≡ wordCountSound g b′
+  unfolding wordCountSound
+  words-kept = rw len
+
   pub leaf-kept : (l : ℕ) → inodePointer g b l ≡ inodePointer g b′ l → leaf g b l ≡ leaf g b′ l
   unfolding leaf
   leaf-kept l e = ap (λ (x : ℕ). x / g .words) e
@@ -203,21 +207,17 @@ module _ (g : Layout) (fit : Fits g) (b b′ : List ℕ) (s : Same g b b′) whe
   unfolding walkTo
   same-walk f h i = rw (← (s .sizes f h)) (root-walk (g .words) pos b b′ (root g b f) (root g b′ f) (size g b f) (s .roots f h) (s .trees f h) i)
 
-  same-word-count : wordCountSound g b ≡ wordCountSound g b′
-  unfolding wordCountSound
-  same-word-count = rw (s .lengths)
-
   same-trees : treesSound g b ≡ treesSound g b′
   unfolding treesSound
   same-trees = ap₂ _&&_ (ap₂ _&&_ (every-cong (g .leaves) (leafSound g b) (leafSound g b′) (λ l h. leaf-sound-kept g b b′ (s .lengths) l (s .pointers l h))) (every-cong (files g) (fileSound g b) (fileSound g b′) same-file)) (ap distinct same-live)
 
   pub same-accepted : accepted g b ≡ accepted g b′
   unfolding accepted
-  same-accepted = rw (same-word-count, trailer-kept g b b′ (s .lengths) fit (s .trailers), same-trees)
+  same-accepted = rw (words-kept g b b′ (s .lengths), trailer-kept g b b′ (s .lengths) fit (s .trailers), same-trees)
 
   same-check : checkAnswer g b ≡ checkAnswer g b′
   unfolding checkAnswer boardFaults wordCountFault
-  same-check = rw (same-word-count, trailer-kept g b b′ (s .lengths) fit (s .trailers), same-trees)
+  same-check = rw (words-kept g b b′ (s .lengths), trailer-kept g b b′ (s .lengths) fit (s .trailers), same-trees)
 
   -- so it shows the same
   pub same-shows : Shows g b b′

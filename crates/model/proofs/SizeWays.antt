@@ -19,7 +19,7 @@ use Rattle.model.specs.Plan.{step}
 use Rattle.model.specs.Fresh.{Page, splice, need, stored, freshPointer, build}
 use Rattle.model.specs.InPlace.{atBlock, walkLive, tailNeed, tailPages, inPlace}
 use Rattle.model.proofs.Cases.{decide, or-right, some-at}
-use Rattle.model.proofs.Counting.{one, occ, one-same, one-other}
+use Rattle.model.proofs.Counting.{occ, one-same, one-other, one-most}
 use Rattle.model.proofs.Spans.{least-within, least-reaches}
 use Rattle.model.proofs.Perform.{All, all-append, address-block}
 use Rattle.model.proofs.Addresses.{addresses, addresses-away, Stands, all-map, all-left, all-right, occ-addresses-append, stored-once, held-of-all}
@@ -164,9 +164,6 @@ module _ (g : Layout) (fit : Fits g) (b : List ℕ) (t : T (accepted g b)) (f : 
     in-place-once (g .words) b hook (root g b f % g .words) (root g b f / g .words) (size g b f) new c (rootAddress g b f) x live,
     file-live g b f (x / g .words) f-lt,
   )
-
-  one-most : (q x : ℕ) → one q x ≤ 1
-  one-most q x = elim (decide q x) [ inl e ↦ rw e (omega (arith, one-same x)) | inr d ↦ omega (arith, one-other q x d) ]
 
   -- the root word that an epoch stored
   root-stored : (ss : List Store) → All (λ s. T (hidden g b s)) ss → (v : ℕ) → getD (performed b ss) (rootAddress g b f) 0 ≡ v → root g (performed b ss) f ≡ v

@@ -92,3 +92,10 @@ module _ (W : ℕ) (pos : 0 < W) where
     | inl u ↦ least-least h e x (rw (le-leb e (span W h) u) at l)
     | inr u ↦ let l′ : x < suc h = rw (lt-leb e (span W h) u) at l in omega (arith, span-mono x h (omega arith))
   ]
+
+  -- so a height that is not sufficient is no higher
+  pub least-above : (h e x : ℕ) → e ≤ span W h → span W x < e → x ≤ least W h e
+  least-above h e x reach more = elim (split x (least W h e)) [
+    | inl l ↦ l
+    | inr l ↦ absurd (omega (arith, least-reaches h e reach, span-mono (least W h e) x (omega arith)))
+  ]

@@ -1,7 +1,7 @@
 -- Fresh blocks. Of the free blocks a plan stores to the lowest, as many as it takes, and to no other; how many that is; and after it the live
 -- and the free blocks still make B.
 use mathlib.Core.Path.{_≡_, refl, _∙_, sym, ap}
-use mathlib.Core.Logic.{inl, inr, _↔_}
+use mathlib.Core.Logic.{inl, inr}
 use mathlib.Core.List.{List, [], _∷_}
 use Prim.Native.Nat.{ℕ, zero, suc, _+_, _-_, _*_, _/_, _%_, _<_}
 use native.Mathlib.Omega.{arith}
@@ -23,7 +23,7 @@ use Rattle.model.specs.Calls.{lowest}
 use Rattle.model.specs.Cut.{Change, fileOf, called, planOf, altered, planFor}
 use Rattle.model.specs.Claims.{FreshRule}
 use Rattle.model.proofs.Cases.{split, is-true}
-use Rattle.model.proofs.Counting.{occ, member-none, member-some, one-other, occ-append}
+use Rattle.model.proofs.Counting.{occ, one-other, occ-append, member-occ}
 use Rattle.model.proofs.Perform.{length-performed}
 use Rattle.model.proofs.Built.{used, length-build}
 use Rattle.model.proofs.Tailed.{length-tail}
@@ -32,12 +32,6 @@ use Rattle.model.proofs.Shown.{count-kept}
 use Rattle.model.proofs.Census.{census, member-free}
 use Rattle.model.proofs.Taking.{blocksOf}
 use Rattle.model.proofs.Rules.{call-either, plan-stores, accuracy-rule}
-
-member-occ : (k : ℕ) (xs : List ℕ) → T (member k xs) ↔ (0 < occ k xs)
-member-occ k xs = (
-  λ t. elim (split (occ k xs) 0) [ inl z ↦ let e : occ k xs ≡ 0 = omega arith in absurd (rw (member-none k xs e) at t) | inr l ↦ l ],
-  λ l. rw (member-some k xs l) tt,
-)
 
 -- the first n of a list, by its elements
 first-used : (l : List ℕ) (k n : ℕ) → 0 < k → used (λ i. getD l i 0) k 0 n ≡ occ k (take n l)

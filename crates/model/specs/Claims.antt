@@ -53,7 +53,8 @@ FreshRule = (g : Layout) → Fits g → (b : List ℕ) → T (accepted g b) → 
     → let ss : List Store = planOf (called g b c slice) in
     0 < length ss → (k : ℕ) → T (member k (free g b)) → T (member k (map (λ s. s .at / g .words) (stores ss))) ↔ T (member k (take (planFor g b c .taken) (free g b)))
 
--- *A fresh file block holds what is visible: bytes and pointers at or past the new size are 0*, of a tree of which n bytes lay below the old size
+-- *A fresh file block holds what is visible: bytes and pointers at or past the new size are 0*. Said of the two kinds of page that a fresh tree is
+-- made of, in a tree of which n bytes lay below the old size
 abbrev pub FreshBlockRule : Type 0
 FreshBlockRule = (W : ℕ) (b : List ℕ) (k n o : ℕ) (new : Bytes)
     → let l : ℕ = length (new .values) in
