@@ -3,11 +3,11 @@ use mathlib.Core.Path.{_≡_}
 use mathlib.Core.Logic.{inl, inr}
 use mathlib.Core.Bool.{Bool, _&&_}
 use mathlib.Core.List.{List}
-use Prim.Native.Nat.{ℕ, zero, suc, _+_, _-_, _*_, _/_, _%_, _≤_, _<_}
+use Prim.Native.Nat.{ℕ, zero, suc, _+_, _-_, _*_, _/_, _%_, _≤_, _<_, _^_}
 use native.Mathlib.Omega.{arith}
-use native.Mathlib.Nat.{mod-lt, div-add-mod', mul-comm}
+use native.Mathlib.Nat.{mod-lt, div-add-mod', mul-comm, le-div-iff-mul-le}
 use lib.ListN.{length}
-use lib.Dec.{T, leb, ltb, eqb, leb→le, ltb→lt, lt→ltb}
+use lib.Dec.{T, leb, ltb, eqb, leb→le, ltb→lt, lt→ltb, eqb→eq}
 use Rattle.model.specs.Lists.{every, distinct}
 use Rattle.model.specs.Layout.{Layout, Fits, files}
 use Rattle.model.specs.Tree.{sound}
@@ -17,7 +17,26 @@ use Rattle.model.proofs.Counting.{occ, distinct-occ, occ-distinct}
 use Rattle.model.proofs.Perform.{block-on}
 use Rattle.model.proofs.Trees.{sound-dead}
 use Rattle.model.proofs.Shown.{words-pos}
-use Rattle.model.proofs.Formatted.{Counted, counted}
+
+-- a board whose word count is in order
+pub record Counted (g : Layout) (b : List ℕ) : Type 0 where
+  pub whole : length b ≡ g .words * blockCount g b
+  pub blocks-least : 16 ≤ blockCount g b
+  pub below : length b < 2 ^ 64
+
+pub counted : (g : Layout) → Fits g → (b : List ℕ) → T (wordCountSound g b) → Counted g b
+unfolding wordCountSound blockCount
+counted g fit b ok =
+    let low : Bool = leb (16 * g .words) (length b) in
+    let high : Bool = leb (length b) (g .most * g .words) in
+    let even : Bool = eqb (length b % g .words) 0 in
+    let both : T (low && high) = and-left (low && high) even ok in
+    let rest : length b % g .words ≡ 0 = eqb→eq (length b % g .words) 0 (and-right (low && high) even ok) in
+    record {
+      whole = omega (arith, div-add-mod' (length b) (g .words), mul-comm (g .words) (length b / g .words));
+      blocks-least = le-div-iff-mul-le (words-pos g fit) .1 (leb→le (16 * g .words) (length b) (and-left low high both));
+      below = omega (arith, fit .addresses-fit, leb→le (length b) (g .most * g .words) (and-right low high both));
+    }
 
 -- k is one of 1 to B − 2
 abbrev pub Ranged : Layout → List ℕ → ℕ → Type 0

@@ -26,8 +26,7 @@ use Rattle.model.specs.Claims.{SameCalls, BootRule}
 use Rattle.model.proofs.Cases.{true-left, every-cong, joined-cong, every-of, split}
 use Rattle.model.proofs.Counting.{occ}
 use Rattle.model.proofs.Shown.{leaf-of, slot, inode-live, words-kept}
-use Rattle.model.proofs.Formatted.{counted}
-use Rattle.model.proofs.Accepting.{Ranged, inode-range, leaf-range, facts}
+use Rattle.model.proofs.Accepting.{Ranged, inode-range, leaf-range, facts, counted}
 use Rattle.model.proofs.Census.{FreeBlock, free-at}
 use Rattle.model.proofs.Apart.{inode-not-leaf}
 use Rattle.model.proofs.Alike.{Alike, dropped-alike, Found, count-alike, trailer-alike, inode-alike, pointer-alike, leaf-alike, size-alike, file-blocks-alike, file-sound-alike, contents-alike}

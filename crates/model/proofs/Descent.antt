@@ -131,12 +131,12 @@ module _ (W : ℕ) (pos : 0 < W) (b b₂ : List ℕ) (A h k n : ℕ) (live : 0 <
 
 module _ (W : ℕ) (fresh : ℕ → ℕ) (b : List ℕ) (new : List ℕ) (c : ℕ) where
   -- all written bytes lie under one pointer of the block, or they do not
-  descend-on : (h k n o a : ℕ) → o % span W h + length new ≤ span W h → let j = o / span W h in
+  pub descend-on : (h k n o a : ℕ) → o % span W h + length new ≤ span W h → let j = o / span W h in
       descend W fresh b (suc h) (suc k) n o new c a ≡ descend W fresh b h (cell W b (suc k) j / W) (n - j * span W h) (o % span W h) new c (W * suc k + j)
   unfolding descend
   descend-on h k n o a fits = rw (le-leb (o % span W h + length new) (span W h) fits)
 
-  descend-stop : (h k n o a : ℕ) → span W h < o % span W h + length new
+  pub descend-stop : (h k n o a : ℕ) → span W h < o % span W h + length new
       → descend W fresh b (suc h) (suc k) n o new c a ≡ record { at = a; pages = build W fresh b (suc h) (suc k) n o new c }
   unfolding descend
   descend-stop h k n o a more = rw (lt-leb (o % span W h + length new) (span W h) more)
@@ -266,7 +266,7 @@ module _ (W : ℕ) (pos : 0 < W) (fresh : ℕ → ℕ) (b b₂ : List ℕ) (new 
 
 -- ---- single word: the word is one of a data block
 
-hole≢block : (K : ℕ) → Hole ≢ Block K
+pub hole≢block : (K : ℕ) → Hole ≢ Block K
 unfolding atBlock
 hole≢block K e = false≢true (ap atBlock e)
 
@@ -313,7 +313,7 @@ splice-word o new old i fits e =
     rw (offset, whole, at) at (splice-part 8 (o / 8) o new old (i % 8) (omega arith))
 
 -- byte o's word, in its data block, and its place in that word
-word-in-block : (W : ℕ) → 0 < W → (o : ℕ) → o % span W 0 / 8 < W
+pub word-in-block : (W : ℕ) → 0 < W → (o : ℕ) → o % span W 0 / 8 < W
 unfolding span
 word-in-block W pos o = let some : 0 < 8 * W = omega arith in omega (arith, mod-lt o some)
 

@@ -29,7 +29,8 @@ use Rattle.model.proofs.Perform.{All, all-append, all-tabulate, length-
 use Rattle.model.proofs.Addresses.{addresses, addresses-away, occ-addresses-append, occ-addresses-tabulate, used-once, stored-once, all-holds}
 use Rattle.model.proofs.Epochs.{Full, epochs-fenced, shaped, shaped-none, planned-either, all-chosen, standing-epochs, standing-none}
 use Rattle.model.proofs.Shown.{count-kept}
-use Rattle.model.proofs.Formatted.{Counted, counted, clears, trailerStore, commits, pages, filling, formatEpochs, length-pages, filling-some, format-epochs, filling-goes, trailer-on, format-plain, format-stores, format-empties}
+use Rattle.model.proofs.Accepting.{Counted, counted}
+use Rattle.model.proofs.Formatted.{clears, trailerStore, commits, pages, filling, formatEpochs, length-pages, filling-some, format-epochs, filling-goes, trailer-on, format-plain, format-stores, format-empties}
 
 module _ (g : Layout) (fit : Fits g) (b : List ℕ) (ok : T (wordCountSound g b)) where
   -- ---- The plan

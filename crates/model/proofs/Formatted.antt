@@ -1,50 +1,30 @@
 -- Format: how many pairs its plan has, and what it leaves once performed, for every layout that fits and every block count.
 use mathlib.Core.Path.{_≡_, refl, sym, ap, _∙_}
 use mathlib.Core.Logic.{_≢_, inl, inr}
-use mathlib.Core.Bool.{Bool, _&&_}
+use mathlib.Core.Bool.{_&&_}
 use mathlib.Core.List.{List, [], _∷_, _++_}
 use Prim.Native.Nat.{ℕ, suc, _+_, _-_, _*_, _/_, _%_, _^_, _≤_, _<_}
 use native.Mathlib.Omega.{arith}
-use native.Mathlib.Nat.{add-assoc, mul-comm, mul-add, mul-one, mul-suc, mul-div-right, mul-mod-right, mod-lt, mod-eq-of-lt, add-mod-left, le-div-iff-mul-le, div-add-mod', div-lt-iff-lt-mul}
+use native.Mathlib.Nat.{add-assoc, mul-add, mul-one, mul-suc, mul-div-right, mul-mod-right, mod-eq-of-lt, add-mod-left}
 use lib.ListN.{length, getD, set, length-set, length-append, length-replicate, getD-replicate}
 use lib.Seq.{getD-set-same, getD-set-other}
-use lib.Dec.{T, leb, eqb, leb→le, eqb→eq, eqb-refl, lit≤, lit<}
+use lib.Dec.{T, eqb, eqb-refl, lit≤, lit<}
 use borrow.Author.Tests.{le-leb, lt-ltb}
-use Rattle.model.specs.Lists.{tabulate, every, distinct, concat}
+use Rattle.model.specs.Lists.{tabulate, every, concat}
 use Rattle.model.specs.Layout.{Layout, Fits, house, files}
 use Rattle.model.specs.Tree.{cell}
-use Rattle.model.specs.Board.{rootBlocks, rootSound, trailerWord, greatest, blockCount, trailer, inodeBlock, inodePointer, leaf, rootAddress, sizeAddress, root, size, contents, fileBlocks, liveBlocks, inRange, wordCountSound, trailerSound, leafSound, fileSound, treesSound, accepted}
+use Rattle.model.specs.Board.{rootBlocks, rootSound, trailerWord, greatest, blockCount, trailer, inodeBlock, inodePointer, leaf, rootAddress, sizeAddress, root, size, contents, fileBlocks, liveBlocks, inRange, wordCountSound, trailerSound, leafSound, fileSound}
 use Rattle.model.specs.Store.{Store, store, barrier, performed, stores, fenced}
 use Rattle.model.specs.Plan.{plan, step, stepEpochs, planEpochs, pairs}
 use Rattle.model.specs.Fresh.{Page, stored}
 use Rattle.model.specs.Format.{inodePage, formatPages, trailerAddress, trailerStores, formatPlan}
 use Rattle.model.specs.Claims.{Empty}
-use Rattle.model.proofs.Cases.{decide, and-left, and-right, and-both, every-all, tabulate-cong, joined-none}
-use Rattle.model.proofs.Counting.{occ, one-same, one-other, occ-append, occ-tabulate, occ-distinct, sum-none, sum-once}
+use Rattle.model.proofs.Cases.{decide, and-both, every-all, tabulate-cong, joined-none}
+use Rattle.model.proofs.Counting.{occ, one-same, one-other, occ-append, occ-tabulate, sum-none, sum-once}
 use Rattle.model.proofs.Perform.{All, Plain, all-append, all-tabulate, length-tabulate, length-performed, performed-append, performed-away, performed-tabulate, stores-fenced, address-block, block-on, blocks-differ, length-stored, stored-blocks, stored-cell}
 use Rattle.model.proofs.Trees.{blocks-dead}
-use Rattle.model.proofs.Shown.{count-kept, words-kept}
-
--- a board whose word count is in order
-pub record Counted (g : Layout) (b : List ℕ) : Type 0 where
-  pub whole : length b ≡ g .words * blockCount g b
-  pub blocks-least : 16 ≤ blockCount g b
-  pub below : length b < 2 ^ 64
-
-pub counted : (g : Layout) → Fits g → (b : List ℕ) → T (wordCountSound g b) → Counted g b
-unfolding wordCountSound blockCount
-counted g fit b ok =
-    let low : Bool = leb (16 * g .words) (length b) in
-    let high : Bool = leb (length b) (g .most * g .words) in
-    let even : Bool = eqb (length b % g .words) 0 in
-    let both : T (low && high) = and-left (low && high) even ok in
-    let rest : length b % g .words ≡ 0 = eqb→eq (length b % g .words) 0 (and-right (low && high) even ok) in
-    let pos : 0 < g .words = omega (arith, fit .trailer-fits) in
-    record {
-      whole = omega (arith, div-add-mod' (length b) (g .words), mul-comm (g .words) (length b / g .words));
-      blocks-least = le-div-iff-mul-le pos .1 (leb→le (16 * g .words) (length b) (and-left low high both));
-      below = omega (arith, fit .addresses-fit, leb→le (length b) (g .most * g .words) (and-right low high both));
-    }
+use Rattle.model.proofs.Shown.{count-kept, words-kept, leaf-of, slot}
+use Rattle.model.proofs.Accepting.{Counted, counted, in-range, parts-accepted}
 
 -- what format leaves on b′ in place of b
 pub record Formatted (g : Layout) (b b′ : List ℕ) : Type 0 where
@@ -75,15 +55,13 @@ module _ (g : Layout) (fit : Fits g) (b b′ : List ℕ) (ok : T (wordCountSound
   leaf-is l h = rw (inode-block, p .pointers l h) (mul-div-right (2 + l) pos)
 
   size-zero : (f : ℕ) → f < files g → size g b′ f ≡ 0
-  unfolding size sizeAddress rootAddress files cell
+  unfolding size sizeAddress rootAddress cell
   size-zero f h =
-      let l : f / g .inodes < g .leaves = div-lt-iff-lt-mul (fit .inodes-some) .1 h in
-      rw (leaf-is (f / g .inodes) l, add-assoc (g .words * (2 + f / g .inodes)) (2 * (f % g .inodes)) 1)
-      (p .leaves-zero (f / g .inodes) (2 * (f % g .inodes) + 1) l (omega (arith, mod-lt f (fit .inodes-some), fit .inodes-fit)))
+      let l : f / g .inodes < g .leaves = leaf-of g fit f h in
+      rw (leaf-is (f / g .inodes) l, add-assoc (g .words * (2 + f / g .inodes)) (2 * (f % g .inodes)) 1) (p .leaves-zero (f / g .inodes) (2 * (f % g .inodes) + 1) l (slot g fit f))
 
-  in-range : (k : ℕ) → 0 < k → k < 15 → T (inRange g b′ k)
-  unfolding inRange
-  in-range k u v = rw (same-count, lt-ltb 0 k u, lt-ltb k (blockCount g b - 1) (omega (arith, n .blocks-least))) tt
+  low-range : (k : ℕ) → 0 < k → k < 15 → T (inRange g b′ k)
+  low-range k u v = in-range g b′ k (u, rw same-count (omega (arith, n .blocks-least)))
 
   trailer-sound : T (trailerSound g b′)
   unfolding trailerSound
@@ -91,7 +69,7 @@ module _ (g : Layout) (fit : Fits g) (b b′ : List ℕ) (ok : T (wordCountSound
       and-both (eqb (trailer g b′ 0 % g .words) 1 && inRange g b′ (inodeBlock g b′)) (every (g .words - 1) (λ j. eqb (trailer g b′ (suc j)) (trailerWord g (blockCount g b′) (suc j))))
       (and-both (eqb (trailer g b′ 0 % g .words) 1) (inRange g b′ (inodeBlock g b′))
       (let wide : 1 < g .words = omega (arith, fit .trailer-fits) in rw (p .inode-root, add-mod-left (g .words) 1, mod-eq-of-lt wide) tt)
-      (rw inode-block (in-range 1 (omega arith) (omega arith))))
+      (rw inode-block (low-range 1 (omega arith) (omega arith))))
       (every-all (g .words - 1) (λ j. eqb (trailer g b′ (suc j)) (trailerWord g (blockCount g b′) (suc j)))
       (λ j l. rw (same-count, p .trailers j (omega arith)) (eqb-refl (trailerWord g (blockCount g b) (suc j)))))
 
@@ -100,7 +78,7 @@ module _ (g : Layout) (fit : Fits g) (b b′ : List ℕ) (ok : T (wordCountSound
   leaf-sound l h =
       and-both (eqb (cell (g .words) b′ (inodeBlock g b′) l % g .words) 0) (inRange g b′ (leaf g b′ l))
       (rw (inode-block, p .pointers l h, mul-mod-right (g .words) (2 + l)) tt)
-      (rw (leaf-is l h) (in-range (2 + l) (omega arith) (omega (arith, fit .format-fits))))
+      (rw (leaf-is l h) (low-range (2 + l) (omega arith) (omega (arith, fit .format-fits))))
 
   file-sound : (f : ℕ) → f < files g → T (fileSound g b′ f)
   unfolding fileSound rootSound
@@ -121,23 +99,16 @@ module _ (g : Layout) (fit : Fits g) (b b′ : List ℕ) (ok : T (wordCountSound
     | inr d ↦ omega (arith, one-other q 1 d, occ-append q (tabulate (g .leaves) (λ l. 2 + l)) [], occ-tabulate q (g .leaves) (λ l. 2 + l), sum-once q (g .leaves) (λ l. 2 + l) (λ i j u v. omega arith))
   ]
 
-  live-distinct : T (distinct (liveBlocks g b′))
-  live-distinct = rw live-are (occ-distinct (1 ∷ (tabulate (g .leaves) (λ l. 2 + l) ++ [])) live-once)
-
-  trees-sound : T (treesSound g b′)
-  unfolding treesSound
-  trees-sound =
-      and-both (every (g .leaves) (leafSound g b′) && every (files g) (fileSound g b′)) (distinct (liveBlocks g b′))
-      (and-both (every (g .leaves) (leafSound g b′)) (every (files g) (fileSound g b′)) (every-all (g .leaves) (leafSound g b′) leaf-sound) (every-all (files g) (fileSound g b′) file-sound))
-      live-distinct
-
-  word-count-sound : T (wordCountSound g b′)
-  word-count-sound = rw (words-kept g b′ b (p .lengths)) ok
-
   pub formatted-empty : Empty g b′
-  unfolding accepted contents tabulate
+  unfolding contents tabulate
   formatted-empty = record {
-    board = and-both (wordCountSound g b′ && trailerSound g b′) (treesSound g b′) (and-both (wordCountSound g b′) (trailerSound g b′) word-count-sound trailer-sound) trees-sound;
+    board = parts-accepted g b′ (record {
+      words = rw (words-kept g b′ b (p .lengths)) ok;
+      trailers = trailer-sound;
+      leaves = leaf-sound;
+      files-sound = file-sound;
+      once = λ q. rw live-are (live-once q);
+    });
     files-empty = λ f h. rw (size-zero f h);
   }
 

@@ -22,7 +22,7 @@ use Rattle.model.proofs.Counting.{occ}
 use Rattle.model.proofs.Perform.{All, address-block}
 use Rattle.model.proofs.Splice.{Small, past-span}
 use Rattle.model.proofs.Built.{used}
-use Rattle.model.proofs.Descent.{Replaced, walk-inside, word-changed, Committed, descend-inside, descend-low, descend-changed}
+use Rattle.model.proofs.Descent.{Replaced, walk-inside, word-changed, Committed, descend-inside, descend-low, descend-changed, word-in-block}
 use Rattle.model.proofs.Shown.{Same, words-pos, leaf-of, file-live, same-address, root-block}
 use Rattle.model.proofs.Accepting.{Facts, facts, address-on-board}
 use Rattle.model.proofs.Visible.{same-refl}
@@ -60,12 +60,8 @@ module _ (g : Layout) (fit : Fits g) (b : List ℕ) (t : T (accepted g b)) (f : 
     unfolding walkTo rootWalk
     walked = rw (lt-ltb o (span (g .words) (root g b f % g .words)) (omega arith)) at there
 
-    place-lt : o % span (g .words) 0 / 8 < g .words
-    unfolding span
-    place-lt = let l : o % (8 * g .words) < 8 * g .words = mod-lt o (omega (arith, pos)) in omega arith
-
     block-of : a / g .words ≡ K
-    block-of = address-block (g .words) K (o % span (g .words) 0 / 8) place-lt
+    block-of = address-block (g .words) K (o % span (g .words) 0 / 8) (word-in-block (g .words) pos o)
 
     in-tree : 0 < occ (a / g .words) (fileBlocks g b f)
     unfolding fileBlocks rootBlocks

@@ -23,10 +23,10 @@ pub mod Tailed
 pub mod Descent
 pub mod Shrunk
 pub mod Grown
--- Boards: what is shown, format, what acceptance says, free blocks, commits, hidden stores
+-- Boards: what is shown, what acceptance says, format, free blocks, commits, hidden stores
 pub mod Shown
-pub mod Formatted
 pub mod Accepting
+pub mod Formatted
 pub mod Ranges
 pub mod Live
 pub mod Census

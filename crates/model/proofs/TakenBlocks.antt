@@ -9,7 +9,6 @@ use native.Mathlib.Nat.{zero-add}
 use lib.ListN.{length, getD, take, List·getD-eq-default}
 use lib.Seq.{take-all, take-suc}
 use lib.Dec.{T}
-use borrow.Author.Tests.{le-leb, lt-leb}
 use Rattle.model.specs.Lists.{concat, member, sum}
 use Rattle.model.specs.Layout.{Layout, Fits}
 use Rattle.model.specs.Tree.{span, least, cell}
@@ -27,6 +26,7 @@ use Rattle.model.proofs.Counting.{occ, one-other, occ-append, member-oc
 use Rattle.model.proofs.Perform.{length-performed}
 use Rattle.model.proofs.Built.{used, length-build}
 use Rattle.model.proofs.Tailed.{length-tail}
+use Rattle.model.proofs.Descent.{descend-on, descend-stop}
 use Rattle.model.proofs.Grown.{length-levels}
 use Rattle.model.proofs.Shown.{count-kept}
 use Rattle.model.proofs.Census.{census, member-free}
@@ -74,9 +74,9 @@ unfolding descend
 descend-need W pos fresh b zero k n o new c a = (0, o, length-build W pos b fresh 0 k n o new c)
 descend-need W pos fresh b (suc h) zero n o new c a = (suc h, o, length-build W pos b fresh (suc h) 0 n o new c)
 descend-need W pos fresh b (suc h) (suc k) n o new c a = elim (split (o % span W h + length new) (span W h)) [
-  | inl fits ↦ rw (le-leb (o % span W h + length new) (span W h) fits)
+  | inl fits ↦ rw (descend-on W fresh b new c h k n o a fits)
       (descend-need W pos fresh b h (cell W b (suc k) (o / span W h) / W) (n - o / span W h * span W h) (o % span W h) new c (W * suc k + o / span W h))
-  | inr more ↦ rw (lt-leb (o % span W h + length new) (span W h) more) (suc h, o, length-build W pos b fresh (suc h) (suc k) n o new c)
+  | inr more ↦ rw (descend-stop W fresh b new c h k n o a more) (suc h, o, length-build W pos b fresh (suc h) (suc k) n o new c)
 ]
 
 module _ (g : Layout) (pos : 0 < g .words) (fresh : ℕ → ℕ) (b : List ℕ) (f : ℕ) where

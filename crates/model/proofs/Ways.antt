@@ -25,6 +25,7 @@ use Rattle.model.proofs.Counting.{occ}
 use Rattle.model.proofs.Perform.{All, length-tabulate}
 use Rattle.model.proofs.Altering.{spliced-write, spliced-cut, spliced-zeros}
 use Rattle.model.proofs.Splice.{Small}
+use Rattle.model.proofs.Descent.{hole≢block}
 use Rattle.model.proofs.Shown.{words-pos, rootByte, contents-bytes, leaf-of, leaf-live, root-block, size-block}
 use Rattle.model.proofs.Commits.{spliced}
 use Rattle.model.proofs.Supplied.{Supply}
@@ -93,13 +94,13 @@ module _ (g : Layout) (fit : Fits g) (b : List ℕ) (t : T (accepted g b)) (f : 
 
   -- 3: *e ≤ s, all bytes fall in one word and its data block exists*
   single-parts : (K : ℕ) → singleBlock g b f o (o + length new) ≡ Block K → (o + length new ≤ size g b f) × (o / 8 ≡ (o + length new - 1) / 8) × (walkTo g b f o ≡ Block K)
-  unfolding singleBlock atBlock
+  unfolding singleBlock
   single-parts K e = elim (split (o + length new) (size g b f)) [
     | inl l ↦ elim (decide (o / 8) ((o + length new - 1) / 8)) [
       | inl w ↦ (l, w, rw (le-leb (o + length new) (size g b f) l, eq-eqb (o / 8) ((o + length new - 1) / 8) w) at e)
-      | inr d ↦ absurd (false≢true (ap atBlock (rw (le-leb (o + length new) (size g b f) l, ne-eqb (o / 8) ((o + length new - 1) / 8) d) at e)))
+      | inr d ↦ absurd (hole≢block K (rw (le-leb (o + length new) (size g b f) l, ne-eqb (o / 8) ((o + length new - 1) / 8) d) at e))
     ]
-    | inr m ↦ absurd (false≢true (ap atBlock (rw (lt-leb (o + length new) (size g b f) m) at e)))
+    | inr m ↦ absurd (hole≢block K (rw (lt-leb (o + length new) (size g b f) m) at e))
   ]
 
   single-way : (K : ℕ) → singleBlock g b f o (o + length new) ≡ Block K → Good (singleWord g b f K o new c)
