@@ -15,7 +15,7 @@ fn byte_at(image: &[u8], at: usize) -> u64
 }
 
 // The word whose byte 0 is at an index. A sum of this form is compiled to one load.
-fn word_at(image: &[u8], at: usize) -> u64
+pub fn word_at(image: &[u8], at: usize) -> u64
     requires { ⌜ at + 8 ≤ length (now image) ⌝ }
     ensures { λ r. ⌜ r ≡ wordOf 8 (λ i. getD (now (image .entry)) (at + i) 0) ⌝ }
 {

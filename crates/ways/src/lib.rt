@@ -1,0 +1,319 @@
+// The ways of planning a write, document 01's 2 to 6. The names of arguments are those of `building`; each answers how many pairs the plan has then and
+// how many fresh blocks are taken.
+use boards::inode_pointer;
+use boards::trailer;
+use building::build;
+use building::minus;
+use building::spliced;
+use building::take;
+use model::WalkEnd;
+use plans::cell_on;
+use plans::commit;
+use plans::pair;
+use plans::word_on;
+use tails::in_place;
+use tails::tail_pages;
+use tails::walk_live;
+use trees::span;
+use words::word;
+ghost use mathlib.Core.Path.{_≡_};
+ghost use Prim.Native.Nat.{_+_, _*_, _%_, _^_, _≤_, _<_};
+ghost use lib.ListN.{length};
+ghost use Rattle.model.specs.declared.WalkEnd.the-variants.{Hole};
+ghost use Rattle.model.specs.Lists.{tabulate};
+ghost use Rattle.model.specs.Layout.{house};
+ghost use Rattle.model.specs.Tree.{span, least};
+ghost use Rattle.model.specs.Board.{inodeBlock, rootAddress, root, size};
+ghost use Rattle.model.specs.Change.{levels, growthTo, singleWord, emptyTail, tail, shadowInside, leafPage, shadowWithLength, chosenWay};
+ghost use Rattle.plans.specs.Laying.{onto};
+ghost use Rattle.building.specs.Taking.{taking, Blocks, Took};
+ghost use Rattle.ways.specs.Planning.{PlanLaid, AddressOf, Descended, Ready, leafCopy};
+
+// How many pairs a plan has and how many fresh blocks it takes.
+pub struct Count {
+    pub pairs: u64,
+    pub taken: u64,
+}
+
+// The address of a file's root word; its size stands in the next.
+pub fn root_address(board: &[u64], file: u64) -> u64
+    ensures { λ r. ⌜ AddressOf (now (board .entry)) file r ⌝ }
+{
+    8 * (inode_pointer(board, file / 4) / 8) + 2 * (file % 4)
+}
+
+// The least height whose tree spans e bytes.
+pub fn least_height(e: u64) -> u64
+    ensures { λ r. ⌜ r ≡ least 8 3 e ⌝ }
+{
+    match e {
+        0..=64 => 0,
+        65..=512 => 1,
+        513..=4096 => 2,
+        _ => 3,
+    }
+}
+
+// Lays the fresh blocks of growth over block k, one for each of d levels. Answers how many are taken.
+fn levels(free: &[u64], plan: &mut [u64], k: u64, d: u64) -> u64
+    requires { ⌜ Blocks (now free) × (k < 2 ^ 61) × (d ≤ 8) ⌝ }
+    ensures { λ r. ⌜ Took (now (free .entry)) (now (plan .entry)) 0 0 (levels 8 (taking (now (free .entry))) k d) (now (plan .exit)) r ⌝ }
+{
+    if k == 0 {
+        return 0;
+    }
+    let mut below = k;
+    let mut i = 0;
+    while i < d {
+        take(free, plan, 0, [8 * below, 0, 0, 0, 0, 0, 0, 0], i);
+        below = word(free, i);
+        i += 1;
+    }
+    d
+}
+
+// Growth of a file's tree to height h.
+pub fn grow(board: &[u64], free: &[u64], plan: &mut [u64], file: u64, h: u64) -> Count
+    requires { ⌜ Blocks (now free) × (root house (now board) file % 8 ≤ h) × (h ≤ 3) ⌝ }
+    ensures { λ r. ⌜ PlanLaid (now (plan .entry)) 0 (growthTo house (taking (now (free .entry))) (now (board .entry)) file h) (now (plan .exit)) r ⌝ }
+{
+    let at = root_address(board, file);
+    let root = word(board, at);
+    let k = root / 8;
+    let taken = levels(free, plan, k, h - root % 8);
+    let top = if taken == 0 { k } else { word(free, taken - 1) };
+    let pairs = commit(plan, 0, 8 * taken, at, 8 * top + h);
+    Count {
+        pairs: pairs,
+        taken: taken,
+    }
+}
+
+// A write to one word of data block k.
+pub fn single(board: &[u64], plan: &mut [u64], k: u64, o: u64, new: &[u8]) -> Count
+    requires { ⌜ k < 2 ^ 61 ⌝ }
+    ensures { λ r. ⌜ PlanLaid (now (plan .entry)) 0 (singleWord house (now (board .entry)) 0 k o (now (new .entry)) 0) (now (plan .exit)) r ⌝ }
+{
+    let at = 8 * k + o % 64 / 8;
+    pair(plan, 0, at, spliced(word(board, at), 8, o % 8, new, 0));
+    Count {
+        pairs: 1,
+        taken: 0,
+    }
+}
+
+// A write into an empty file.
+fn fill_empty(
+    board: &[u64],
+    grown: &[u64],
+    free: &[u64],
+    plan: &mut [u64],
+    base: u64,
+    file: u64,
+    new: &[u8],
+    c: u64,
+) -> Count
+    requires { ⌜ Ready (now board) (onto (now board) (now grown)) file 0 (now new) (now free) base c ⌝ }
+    ensures { λ r. ⌜ PlanLaid (now (plan .entry)) (base + 8 * c)
+        (emptyTail house (taking (now (free .entry))) (onto (now (board .entry)) (now (grown .entry))) file (now (new .entry)) c) (now (plan .exit)) r ⌝ }
+{
+    let at = root_address(board, file);
+    let len = new.len() as u64;
+    let h = least_height(len);
+    let taken = build(board, grown, free, plan, base, h, 0, 0, 0, new, c);
+    let q = base + 8 * taken;
+    pair(plan, q, at, 8 * word(free, taken - 1) + h);
+    let pairs = commit(plan, base + 8 * c, q + 1, at + 1, len);
+    Count {
+        pairs: pairs,
+        taken: taken,
+    }
+}
+
+// A write at the end of a file whose last live block exists.
+fn append(
+    board: &[u64],
+    grown: &[u64],
+    free: &[u64],
+    plan: &mut [u64],
+    base: u64,
+    file: u64,
+    new: &[u8],
+    c: u64,
+) -> Count
+    requires { ⌜ (0 < size house (onto (now board) (now grown)) file)
+        × Ready (now board) (onto (now board) (now grown)) file (size house (onto (now board) (now grown)) file) (now new) (now free) base c ⌝ }
+    ensures { λ r. ⌜ PlanLaid (now (plan .entry)) (base + 8 * c)
+        (tail house (taking (now (free .entry))) (onto (now (board .entry)) (now (grown .entry))) file
+        (size house (onto (now (board .entry)) (now (grown .entry))) file) (now (new .entry)) c) (now (plan .exit)) r ⌝ }
+{
+    let at = root_address(board, file);
+    let root = word_on(board, grown, at);
+    let s = word_on(board, grown, at + 1);
+    let taken = tail_pages(board, grown, free, plan, base, root % 8, root / 8, s, new, c);
+    let q = in_place(board, grown, free, plan, base + 8 * taken, root % 8, root / 8, s, new, c, at);
+    let pairs = commit(plan, base + 8 * c, q, at + 1, s + new.len() as u64);
+    Count {
+        pairs: pairs,
+        taken: taken,
+    }
+}
+
+// Where a descent ends: the tree that is built anew, and the address of its pointer.
+pub struct Spot {
+    pub height: u64,
+    pub block: u64,
+    pub left: u64,
+    pub offset: u64,
+    pub at: u64,
+}
+
+// Goes down the tree (h, k, n), whose pointer stands at address a, while its block exists, isn't data and all of `new`, written at o, lies under one
+// of its pointers.
+fn descend(board: &[u64], grown: &[u64], h: u64, k: u64, n: u64, o: u64, new: &[u8], a: u64) -> Spot
+    requires { ⌜ (h < 8) × (k < 2 ^ 61) × (o < span 8 h) × (length (now new) ≤ 32768) ⌝ }
+    ensures { λ r. ⌜ Descended (onto (now (board .entry)) (now (grown .entry))) h k n o (now (new .entry)) a r ⌝ }
+{
+    let mut spot = Spot {
+        height: h,
+        block: k,
+        left: n,
+        offset: o,
+        at: a,
+    };
+    while spot.height != 0 {
+        let s = span(spot.height - 1);
+        let rest = spot.offset % s;
+        if spot.block == 0 {
+            return spot;
+        }
+        if s < rest + new.len() as u64 {
+            return spot;
+        }
+        let j = spot.offset / s;
+        spot = Spot {
+            height: spot.height - 1,
+            block: cell_on(board, grown, spot.block, j) / 8,
+            left: minus(spot.left, j * s),
+            offset: rest,
+            at: 8 * spot.block + j,
+        };
+    }
+    spot
+}
+
+// A write within the size, committed at one pointer.
+fn shadow_inside(
+    board: &[u64],
+    grown: &[u64],
+    free: &[u64],
+    plan: &mut [u64],
+    base: u64,
+    file: u64,
+    o: u64,
+    new: &[u8],
+    c: u64,
+) -> Count
+    requires { ⌜ (0 < size house (onto (now board) (now grown)) file) × Ready (now board) (onto (now board) (now grown)) file o (now new) (now free) base c ⌝ }
+    ensures { λ r. ⌜ PlanLaid (now (plan .entry)) (base + 8 * c)
+        (shadowInside house (taking (now (free .entry))) (onto (now (board .entry)) (now (grown .entry))) file o (now (new .entry)) c) (now (plan .exit)) r ⌝ }
+{
+    let at = root_address(board, file);
+    let root = word_on(board, grown, at);
+    let s = word_on(board, grown, at + 1);
+    let spot = descend(board, grown, root % 8, root / 8, s, o, new, at);
+    let taken = build(board, grown, free, plan, base, spot.height, spot.block, spot.left, spot.offset, new, c);
+    let low = word_on(board, grown, spot.at) % 8;
+    let pairs = commit(plan, base + 8 * c, base + 8 * taken, spot.at, 8 * word(free, taken - 1) + low);
+    Count {
+        pairs: pairs,
+        taken: taken,
+    }
+}
+
+// The words of the inode leaf of the inode at address `at`, with its root and its size replaced.
+fn leaf_words(board: &[u64], grown: &[u64], at: u64, root: u64, size: u64) -> [u64; 8]
+    ensures { λ r. ⌜ r ≡ tabulate 8 (leafCopy (onto (now (board .entry)) (now (grown .entry))) at root size) ⌝ }
+{
+    let slot = at % 8;
+    let mut page = [0u64; 8];
+    let mut j = 0;
+    while j < 8 {
+        let i = j as u64;
+        if i == slot {
+            page[j] = root;
+        } else if i == slot + 1 {
+            page[j] = size;
+        } else {
+            page[j] = cell_on(board, grown, at / 8, i);
+        }
+        j += 1;
+    }
+    page
+}
+
+// A write past the size, committed at the inode pointer.
+fn shadow_with_length(
+    board: &[u64],
+    grown: &[u64],
+    free: &[u64],
+    plan: &mut [u64],
+    base: u64,
+    file: u64,
+    o: u64,
+    new: &[u8],
+    c: u64,
+) -> Count
+    requires { ⌜ (0 < size house (onto (now board) (now grown)) file) × Ready (now board) (onto (now board) (now grown)) file o (now new) (now free) base c ⌝ }
+    ensures { λ r. ⌜ PlanLaid (now (plan .entry)) (base + 8 * c)
+        (shadowWithLength house (taking (now (free .entry))) (onto (now (board .entry)) (now (grown .entry))) file o (now (new .entry)) c) (now (plan .exit)) r ⌝ }
+{
+    let at = root_address(board, file);
+    let root = word_on(board, grown, at);
+    let s = word_on(board, grown, at + 1);
+    let e = o + new.len() as u64;
+    let taken = build(board, grown, free, plan, base, root % 8, root / 8, s, o, new, c);
+    let size = if s < e { e } else { s };
+    let page = leaf_words(board, grown, at, 8 * word(free, taken - 1) + root % 8, size);
+    let all = take(free, plan, base, page, taken);
+    let pointer = 8 * (trailer(board, 0) / 8) + file / 4;
+    let pairs = commit(plan, base + 8 * c, base + 8 * all, pointer, 8 * word(free, taken));
+    Count {
+        pairs: pairs,
+        taken: all,
+    }
+}
+
+// The first of ways 4 to 6 whose condition holds.
+pub fn way(
+    board: &[u64],
+    grown: &[u64],
+    free: &[u64],
+    plan: &mut [u64],
+    base: u64,
+    file: u64,
+    o: u64,
+    new: &[u8],
+    c: u64,
+) -> Count
+    requires { ⌜ Ready (now board) (onto (now board) (now grown)) file o (now new) (now free) base c ⌝ }
+    ensures { λ r. ⌜ PlanLaid (now (plan .entry)) (base + 8 * c)
+        (chosenWay house (taking (now (free .entry))) (onto (now (board .entry)) (now (grown .entry))) file Hole o (now (new .entry)) c) (now (plan .exit)) r ⌝ }
+{
+    let at = root_address(board, file);
+    let root = word_on(board, grown, at);
+    let s = word_on(board, grown, at + 1);
+    if o == s {
+        if s == 0 {
+            return fill_empty(board, grown, free, plan, base, file, new, c);
+        }
+        let WalkEnd::Block(_) = walk_live(board, grown, root % 8, root / 8, s) else {
+            return shadow_with_length(board, grown, free, plan, base, file, o, new, c);
+        };
+        return append(board, grown, free, plan, base, file, new, c);
+    }
+    if o + new.len() as u64 <= s {
+        return shadow_inside(board, grown, free, plan, base, file, o, new, c);
+    }
+    shadow_with_length(board, grown, free, plan, base, file, o, new, c)
+}
