@@ -1,24 +1,10 @@
 // The calls of the cabinet's C program, on a board image held as bytes. Each answers what the definition of its name answers, on all inputs.
+use answers::signed;
 use images::load;
-use model::Answer;
-use reading::number;
 ghost use mathlib.Core.Path.{_≡_};
-ghost use Prim.Native.Nat.{_<_, _^_};
-ghost use Rattle.model.specs.Answers.{signed, counted};
 ghost use Rattle.model.specs.Layout.{house};
 ghost use Rattle.model.specs.Cabinet.{imageCheck, imageSize};
 ghost use Rattle.cabinet.specs.Results.{ImageReadResult};
-
-// An answer as C gets it.
-fn signed(answer: Answer) -> i64
-    requires { ⌜ counted answer < 2 ^ 63 ⌝ }
-    ensures { λ r. ⌜ r ≡ signed answer ⌝ }
-{
-    match answer {
-        Answer::Done(n) => n as i64,
-        Answer::Refused(fault) => -(number(fault) as i64),
-    }
-}
 
 // Check: 0, or -1, -2, -3.
 #[no_mangle]

@@ -1,9 +1,9 @@
 // What the lister program prints for a board image.
 pub mod text;
 
+use answers::number;
 use images::load;
 use model::Answer;
-use reading::number;
 ghost use Prim.Native.Nat.{_+_, _<_, _^_};
 ghost use Rattle.model.specs.Lists.{joined};
 ghost use Rattle.model.specs.Layout.{house};

@@ -137,7 +137,7 @@ shaped (e ∷ es) f p o =
 
 -- ---- The lent slice
 
-length-flat : (ss : List Store) → length (flat ss) ≡ 2 * length ss
+pub length-flat : (ss : List Store) → length (flat ss) ≡ 2 * length ss
 unfolding flat
 length-flat [] = refl
 length-flat (s ∷ ss) = omega (arith, length-flat ss)

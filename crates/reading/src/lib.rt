@@ -11,7 +11,7 @@ use trees::root_walk;
 ghost use mathlib.Core.Path.{_≡_};
 ghost use Rattle.model.specs.Layout.{house};
 ghost use Rattle.model.specs.Board.{walkTo};
-ghost use Rattle.model.specs.Answers.{number, answered};
+ghost use Rattle.model.specs.Answers.{answered};
 ghost use Rattle.model.specs.Calls.{fileFaults, checkAnswer, freeCountAnswer, sizeAnswer};
 ghost use Rattle.reading.specs.Results.{ReadResult};
 
@@ -82,22 +82,4 @@ pub fn walk_to(board: &[u64], file: u64, byte: u64) -> WalkEnd
     let root = boards::root(board, file);
     let n = boards::size(board, file);
     root_walk(board, root, n, byte)
-}
-
-// The number of a refusal.
-pub fn number(fault: Fault) -> u64
-    ensures { λ r. ⌜ r ≡ number fault ⌝ }
-{
-    match fault {
-        Fault::WordCount => 1,
-        Fault::Trailer => 2,
-        Fault::Damaged => 3,
-        Fault::FileNumber => 4,
-        Fault::Offset => 5,
-        Fault::End => 6,
-        Fault::FreeBlocks => 7,
-        Fault::PlanLength => 8,
-        Fault::PairCount => 9,
-        Fault::Address => 10,
-    }
 }

@@ -1,7 +1,7 @@
 use borrow.Author.Needs.{needs}
 use Rattle.model.specs.Answers.{number}
-use Rattle.reading.proofs.number.Statement.{statement}
-use Rattle.reading.proofs.number.Tie as tie
+use Rattle.answers.proofs.number.Statement.{statement}
+use Rattle.answers.proofs.number.Tie as tie
 
 pub number-spec : {M : Type 1} → statement M
 unfolding number

@@ -1,7 +1,7 @@
 use borrow.Author.Needs.{needs}
-use Rattle.cabinet.proofs.Signs.{done-fits, done-signed, refused-fits, refused-negated, refused-signed}
-use Rattle.cabinet.proofs.signed.Statement.{statement}
-use Rattle.cabinet.proofs.signed.Tie as tie
+use Rattle.answers.proofs.Signs.{done-fits, done-signed, refused-fits, refused-negated, refused-signed}
+use Rattle.answers.proofs.signed.Statement.{statement}
+use Rattle.answers.proofs.signed.Tie as tie
 
 cast-result : tie.Need-cast-result
 cast-result c = done-fits (c .before .before .before .pre) (c .before .answer .given .1)
