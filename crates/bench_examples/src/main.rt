@@ -1,7 +1,7 @@
 // Examples of the bench sheet that no proof has, run on the library: E11, and the reading side of E10 and E12. It prints a line for each, and
 // shares nothing with the definitions: the boards are made here, word by word.
-use model::Answer;
-use model::Fault;
+use printing::bytes;
+use printing::line;
 use reading::check;
 use reading::free_count;
 use reading::read;
@@ -29,55 +29,6 @@ fn put_trailer(board: &mut [u64], at: u64, blocks: u64) {
     put(board, at + 1, 512);
     put(board, at + 2, blocks);
     put(board, at + 3, 1);
-}
-
-// The refusals as the document numbers them.
-fn number(fault: Fault) -> u64 {
-    match fault {
-        Fault::WordCount => 1,
-        Fault::Trailer => 2,
-        Fault::Damaged => 3,
-        Fault::FileNumber => 4,
-        Fault::Offset => 5,
-        Fault::End => 6,
-        Fault::FreeBlocks => 7,
-        Fault::PlanLength => 8,
-        Fault::PairCount => 9,
-        Fault::Address => 10,
-    }
-}
-
-fn line(what: &[u8], answer: Answer) {
-    io::write_all(1, what);
-    match answer {
-        Answer::Done(n) => {
-            io::write_all(1, b": ");
-            io::print_decimal(1, n);
-        }
-        Answer::Refused(fault) => {
-            io::write_all(1, b": refused ");
-            io::print_decimal(1, number(fault));
-        }
-    }
-    io::write_all(1, b"\n");
-}
-
-// The byte at an index of a buffer.
-fn byte(out: &[u8], i: usize) {
-    if i < out.len() {
-        io::write_all(1, b" ");
-        io::print_decimal(1, out[i] as u64);
-    }
-}
-
-// The first bytes of a buffer after a read.
-fn bytes(what: &[u8], out: &[u8]) {
-    io::write_all(1, what);
-    io::write_all(1, b":");
-    byte(out, 0);
-    byte(out, 1);
-    byte(out, 2);
-    io::write_all(1, b"\n");
 }
 
 fn check_front(what: &[u8], board: &[u64], n: usize) {

@@ -22,6 +22,7 @@ use Rattle.model.specs.Claims.{Empty}
 use Rattle.model.proofs.Cases.{decide, and-both, every-all, tabulate-cong, joined-none}
 use Rattle.model.proofs.Counting.{occ, one-same, one-other, occ-append, occ-tabulate, sum-none, sum-once}
 use Rattle.model.proofs.Perform.{All, Plain, all-append, all-tabulate, length-tabulate, length-performed, performed-append, performed-away, performed-tabulate, stores-fenced, address-block, block-on, blocks-differ, length-stored, stored-blocks, stored-cell}
+use Rattle.model.proofs.Addresses.{all-concat}
 use Rattle.model.proofs.Trees.{blocks-dead}
 use Rattle.model.proofs.Shown.{count-kept, words-kept, leaf-of, slot}
 use Rattle.model.proofs.Accepting.{Counted, counted, in-range, parts-accepted}
@@ -279,22 +280,28 @@ module _ (g : Layout) (fit : Fits g) (b : List ℕ) (ok : T (wordCountSound g b)
     leaves-zero = leaf-held;
   }
 
-  -- no store of the plan is a barrier
-  below : (x : ℕ) → x < length b → x ≢ 2 ^ 64 - 1
-  below x l = omega (arith, size-of .below)
-
-  pub format-plain : All Plain (formatEpochs g b)
+  -- what is so of every address on the board is so of the plan's
+  goes : (P : ℕ → Type 0) → ((x : ℕ) → x < length b → P x) → All (All (λ s. P (s .at))) (formatEpochs g b)
   unfolding All store
-  format-plain =
-      let first : trailerAddress g b 0 ≢ 2 ^ 64 - 1 = below (trailerAddress g b 0) (trailer-on 0 (omega (arith, fit .trailer-fits))) in
-      let middle : Plain (filling g b) = filling-goes g fit b (λ x. x ≢ 2 ^ 64 - 1)
-      (λ k j u v l. below (g .words * k + j) (on-board k j (omega (arith, size-of .blocks-least)) l))
-      (λ j l. below (trailerAddress g b (suc j)) (trailer-on (suc j) l)) in
+  goes P p =
+      let first : P (trailerAddress g b 0) = p (trailerAddress g b 0) (trailer-on 0 (omega (arith, fit .trailer-fits))) in
+      let middle : All (λ s. P (s .at)) (filling g b) = filling-goes g fit b P
+      (λ k j u v l. p (g .words * k + j) (on-board k j (omega (arith, size-of .blocks-least)) l))
+      (λ j l. p (trailerAddress g b (suc j)) (trailer-on (suc j) l)) in
       ((first, tt), (middle, ((first, tt), tt)))
+
+  -- no store of the plan is a barrier
+  pub format-plain : All Plain (formatEpochs g b)
+  format-plain = goes (λ x. x ≢ 2 ^ 64 - 1) (λ x l. omega (arith, size-of .below))
 
   pub format-stores : stores (pairs (formatPlan g b)) ≡ clears g b ∷ (filling g b ++ (commits g b ∷ []))
   unfolding pairs concat
   format-stores = rw (format-epochs g fit b) (stores-fenced (formatEpochs g b) format-plain)
+
+  -- and all of them go to the board
+  pub format-on : All (λ s. s .at < length b) (stores (pairs (formatPlan g b)))
+  unfolding concat
+  format-on = rw format-stores (all-concat (λ s. s .at < length b) (formatEpochs g b) (goes (λ x. x < length b) (λ x l. l)))
 
   -- format's stores, all performed
   performed-done : performed b (stores (pairs (formatPlan g b))) ≡ done

@@ -1,0 +1,146 @@
+-- The promises, from the contracts and the laws.
+use mathlib.Core.Path.{_≡_, sym, ap, _∙_, subst}
+use mathlib.Core.Logic.{_≢_, inl, inr}
+use mathlib.Core.Bool.{Bool, true, false, _&&_, _||_}
+use mathlib.Core.List.{List, [], _∷_}
+use Prim.Native.Nat.{ℕ, _-_, _*_, _/_, _≤_, _<_}
+use native.Mathlib.Omega.{arith}
+use lib.ListN.{length, take, length-take}
+use lib.Dec.{T, ltb}
+use borrow.Author.Tests.{le-ltb, lt-ltb}
+use Rattle.model.specs.declared.Answer.{Answer}
+use Rattle.model.specs.declared.Answer.the-variants.{Done, Refused}
+use Rattle.model.specs.declared.Fault.{Fault}
+use Rattle.model.specs.Lists.{all, consIf, filter}
+use Rattle.model.specs.Layout.{house}
+use Rattle.model.specs.Board.{inRange, accepted, wordCountSound, contents}
+use Rattle.model.specs.Store.{Store, isBarrier, stores, performed, paired}
+use Rattle.model.specs.Plan.{pairs}
+use Rattle.model.specs.Format.{formatPlan}
+use Rattle.model.specs.Answers.{answered, unlessRefused, counted}
+use Rattle.model.specs.Calls.{Planned, wordCountFault, performFaults, performAnswer, performBoard, format}
+use Rattle.model.specs.Cut.{Change, writing, lengthTo, fileOf, called, planOf, planFor, after}
+use Rattle.model.specs.Claims.{Empty}
+use Rattle.model.proofs.Cases.{either, is-true, and-left, and-right, and-both}
+use Rattle.model.proofs.Addresses.{all-map, all-holds, holds-all}
+use Rattle.model.proofs.Epochs.{planned-either}
+use Rattle.model.proofs.Accepting.{ranged, accepted-parts, facts, address-on-board}
+use Rattle.model.proofs.Formatted.{house-fits, format-on, format-empties}
+use Rattle.model.proofs.Rules.{call-either, power-cut-rule, accuracy-rule, plan-rule}
+use Rattle.model.proofs.FormatCut.{format-rule}
+use Rattle.plans.specs.Laying.{PlanResult}
+use Rattle.performing.specs.Results.{PerformResult}
+use Rattle.promises.specs.Promises.{Kept, WritePromise, SetLengthPromise, FormatPromise}
+
+-- ---- Perform, on pairs that are all there and go to the board
+
+pairs-fit : (l : List ℕ) → 2 * length (paired l) ≤ length l
+unfolding paired
+pairs-fit [] = omega arith
+pairs-fit (a ∷ []) = omega arith
+pairs-fit (a ∷ v ∷ l) = omega (arith, pairs-fit l)
+
+or-left : (s t : Bool) → T s → T (s || t)
+or-left true t h = tt
+or-left false t h = absurd h
+
+or-right : (s t : Bool) → T t → T (s || t)
+or-right true t h = tt
+or-right false t h = h
+
+-- what is so of each store is so of each pair that is no barrier
+pairs-all : (p : Store → Bool) (ss : List Store) → T (all p (stores ss)) → T (all (λ s. p s || isBarrier s) ss)
+unfolding all stores filter consIf
+pairs-all p [] t = tt
+pairs-all p (s ∷ ss) t = elim (either (isBarrier s)) [
+  | inl e ↦ and-both (p s || isBarrier s) _ (or-right (p s) (isBarrier s) (rw e tt)) (pairs-all p ss (rw e at t))
+  | inr e ↦
+      let u : T (p s && all p (stores ss)) = rw e at t in
+      and-both (p s || isBarrier s) _ (or-left (p s) (isBarrier s) (and-left (p s) (all p (stores ss)) u)) (pairs-all p ss (and-right (p s) (all p (stores ss)) u))
+]
+
+module _ (b slice : List ℕ) (k : ℕ) (counts : T (wordCountSound house b)) (there : k ≤ length (paired slice))
+    (on : T (all (λ s. ltb (s .at) (length b)) (stores (take k (paired slice))))) where
+  performs : performAnswer house b slice k ≡ Done k
+  unfolding performAnswer performFaults wordCountFault answered
+  performs =
+      let room : 2 * k ≤ length slice = omega (arith, pairs-fit slice) in
+      rw (is-true (wordCountSound house b) counts, le-ltb (length slice) (2 * k) room, is-true (all (λ s. ltb (s .at) (length b) || isBarrier s) (take k (paired slice))) (pairs-all (λ s. ltb (s .at) (length b)) (take k (paired slice)) on))
+
+  pub performed-whole : (q : Answer) (b′ : List ℕ) → PerformResult b slice k q b′ → (q ≡ Done k) × (b′ ≡ performed b (stores (take k (paired slice))))
+  unfolding performBoard unlessRefused
+  performed-whole q b′ w = (w .answer ∙ performs, w .board ∙ rw performs)
+
+-- a plan that is read out of a slice whole: as many pairs as it has are there
+plan-there : (slice : List ℕ) (ss : List Store) → take (length ss) (paired slice) ≡ ss → length ss ≤ length (paired slice)
+plan-there slice ss e = omega (arith, ap length e, length-take (length ss) (paired slice))
+
+-- ---- Write and length change
+
+module _ (b : List ℕ) (t : T (accepted house b)) (c : Change) (slice : List ℕ) where
+  abbrev p : Planned
+  p = called house b c slice
+
+  stores-on : T (all (λ s. ltb (s .at) (length b)) (stores (planOf p)))
+  stores-on = all-holds (λ s. ltb (s .at) (length b)) (stores (planOf p)) (all-map {A = Store} (λ s. T (inRange house b (s .at / 8))) (λ s. T (ltb (s .at) (length b)))
+      (λ s h. rw (lt-ltb (s .at) (length b) (address-on-board house house-fits b (facts house house-fits b t .sizes) (s .at) (omega (arith, ranged house b (s .at / 8) h .1)))) tt)
+      (stores (planOf p)) (holds-all (λ s. inRange house b (s .at / 8)) (stores (planOf p)) (plan-rule house house-fits b t c slice .1)))
+
+  pairs-there : counted (p .answer) ≤ length (paired (p .slice))
+  unfolding planOf counted
+  pairs-there = elim (call-either house house-fits b t c slice) [
+    | inl d ↦ rw (d .answers) (plan-there (p .slice) (pairs (planFor house b c)) (rw (d .answers) at (d .plans)))
+    | inr r ↦ rw (r .answers) (omega arith)
+  ]
+
+  pub kept : (r : Answer) (slice′ : List ℕ) → PlanResult p r slice′ → Kept b (fileOf c) (after c r (contents house b (fileOf c))) r slice′
+  unfolding planOf
+  kept r slice′ e = record {
+    cut = rw (e .answer, e .plan) (power-cut-rule house house-fits b t c slice);
+    whole = rw (e .answer, e .plan) (λ q b′ w.
+        let done = performed-whole b (p .slice) (counted (p .answer)) (accepted-parts house b t .words) pairs-there stores-on q b′ w in
+        (done .0, rw (done .1) (accuracy-rule house house-fits b t c slice)));
+  }
+
+pub write-kept : WritePromise
+unfolding called fileOf
+write-kept b t f o bytes slice r slice′ e = kept b t (writing f o bytes) slice r slice′ e
+
+pub set-length-kept : SetLengthPromise
+unfolding called fileOf
+set-length-kept b t f n slice r slice′ e = kept b t (lengthTo f n) slice r slice′ e
+
+-- ---- Format
+
+refused≢done : {x : Fault} {n : ℕ} → Refused x ≢ Done n
+refused≢done e = subst (λ (r : Answer). IsRefused r) e tt
+  where
+    IsRefused : Answer → Type 0
+    IsRefused (Done n) = ⊥
+    IsRefused (Refused f) = Unit
+
+module _ (b : List ℕ) (ok : T (wordCountSound house b)) (slice : List ℕ) where
+  abbrev f : Planned
+  f = format house b slice
+
+  -- where it is not refused, its plan performed whole leaves 32 empty files
+  format-whole : (n : ℕ) → f .answer ≡ Done n → (q : Answer) (b′ : List ℕ) → PerformResult b (f .slice) n q b′ → (q ≡ Done n) × Empty house b′
+  unfolding format planOf counted
+  format-whole n e q b′ w = elim (planned-either (wordCountFault house b) (pairs (formatPlan house b)) slice) [
+    | inl d ↦
+        let ss : List Store = pairs (formatPlan house b) in
+        let is : n ≡ length ss = ap counted (sym e ∙ d .answers) in
+        let there : take n (paired (f .slice)) ≡ ss = ap (λ (m : ℕ). take m (paired (f .slice))) (ap counted (sym e)) ∙ d .plans in
+        let done = performed-whole b (f .slice) n ok (rw is (plan-there (f .slice) ss (rw is at there)))
+        (rw there (all-holds (λ s. ltb (s .at) (length b)) (stores ss) (all-map {A = Store} (λ s. s .at < length b) (λ s. T (ltb (s .at) (length b))) (λ s l. rw (lt-ltb (s .at) (length b) l) tt) (stores ss) (format-on house house-fits b ok))))
+        q b′ w in
+        (done .0, rw (done .1, there) (format-empties house house-fits b ok))
+    | inr r ↦ absurd (refused≢done (sym (r .answers) ∙ e))
+  ]
+
+pub format-kept : FormatPromise
+unfolding planOf
+format-kept b ok slice r slice′ e = record {
+  cut = rw (e .answer, e .plan) (format-rule house house-fits b ok slice);
+  whole = λ n u q b′ w. format-whole b ok slice n (sym (e .answer) ∙ u) q b′ (rw (e .plan) at w);
+}

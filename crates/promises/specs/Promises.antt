@@ -1,0 +1,51 @@
+-- What a caller has who knows the contracts alone. `r` is what the call answered and `slice′` the plan slice as it left it; both stand in the contract of
+-- the call, PlanResult, and what perform does with them in PerformResult.
+use mathlib.Core.Path.{_≡_}
+use mathlib.Core.Logic.{_⊎_}
+use mathlib.Core.List.{List}
+use Prim.Native.Nat.{ℕ}
+use lib.Dec.{T}
+use Rattle.model.specs.declared.Answer.{Answer}
+use Rattle.model.specs.declared.Answer.the-variants.{Done, Refused}
+use Rattle.model.specs.declared.Fault.the-variants.{Trailer}
+use Rattle.model.specs.Words.{Bytes}
+use Rattle.model.specs.Layout.{house}
+use Rattle.model.specs.Board.{trailer, contents, accepted, wordCountSound}
+use Rattle.model.specs.Store.{Store}
+use Rattle.model.specs.Answers.{counted}
+use Rattle.model.specs.Calls.{checkAnswer, write, setLength, format}
+use Rattle.model.specs.Cut.{writing, lengthTo, planOf, after, Cut, Names, standing, lastArrived}
+use Rattle.model.specs.Claims.{CutSafe, Altered, Empty}
+use Rattle.plans.specs.Laying.{PlanResult}
+use Rattle.performing.specs.Results.{PerformResult}
+
+-- *The plan is as many pairs as the answer counts*, read out of the slice
+abbrev pub planLeft : Answer → List ℕ → List Store
+planLeft r slice = planOf (record { answer = r; slice = slice })
+
+-- what is so of the plan that a call left for file f, which is to read `wanted`
+pub record Kept (b : List ℕ) (f : ℕ) (wanted : List ℕ) (r : Answer) (slice′ : List ℕ) : Type 0 where
+  -- cut anywhere, it obeys the power-cut rule
+  pub cut : (x : Cut) → let ss : List Store = planLeft r slice′ in Names ss x → CutSafe house b (standing ss x b) f wanted ss (lastArrived ss x)
+  -- performed whole by `perform`, which does not refuse it, the file reads as after and no other file is changed
+  pub whole : (q : Answer) (b′ : List ℕ) → PerformResult b slice′ (counted r) q b′ → (q ≡ Done (counted r)) × Altered house b b′ f wanted
+
+-- `write`
+abbrev pub WritePromise : Type 0
+WritePromise = (b : List ℕ) → T (accepted house b) → (f o : ℕ) (bytes : Bytes) (slice : List ℕ) (r : Answer) (slice′ : List ℕ)
+    → PlanResult (write house b f o (bytes .values) slice) r slice′ → Kept b f (after (writing f o bytes) r (contents house b f)) r slice′
+
+-- `set_length`
+abbrev pub SetLengthPromise : Type 0
+SetLengthPromise = (b : List ℕ) → T (accepted house b) → (f n : ℕ) (slice : List ℕ) (r : Answer) (slice′ : List ℕ)
+    → PlanResult (setLength house b f n slice) r slice′ → Kept b f (after (lengthTo f n) r (contents house b f)) r slice′
+
+-- `format`, on any board whose word count is sound: cut anywhere it leaves the old board, or one that check refuses 2, or 32 empty files; performed whole, where it
+-- was not refused, the last
+pub record Formats (b : List ℕ) (r : Answer) (slice′ : List ℕ) : Type 0 where
+  pub cut : (x : Cut) → let ss : List Store = planLeft r slice′ in let b′ : List ℕ = standing ss x b in
+      Names ss x → (b′ ≡ b) ⊎ (((trailer house b′ 0 ≡ 0) × (checkAnswer house b′ ≡ Refused Trailer)) ⊎ Empty house b′)
+  pub whole : (n : ℕ) → r ≡ Done n → (q : Answer) (b′ : List ℕ) → PerformResult b slice′ n q b′ → (q ≡ Done n) × Empty house b′
+
+abbrev pub FormatPromise : Type 0
+FormatPromise = (b : List ℕ) → T (wordCountSound house b) → (slice : List ℕ) (r : Answer) (slice′ : List ℕ) → PlanResult (format house b slice) r slice′ → Formats b r slice′

@@ -1,0 +1,1 @@
+// What the contracts of the calls give together with the laws. It has no code.
