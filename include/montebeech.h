@@ -1,18 +1,22 @@
 /*
- * Montebeech: the files on a cabinet's memory board, read from C. Link with libcabinet.a.
+ * Montebeech: the files on a cabinet's memory board, from C.
  *
- * An image is the bytes of a board, eight to a word, byte 0 of each word first. It has 1,024 to 65,536 bytes, a
- * multiple of 64. Any image may be passed: a damaged one is refused.
+ * Two forms. The calls on an image (libcabinet.a) read: an image is the bytes of a board, eight to a word, byte 0 of
+ * each word first, 1,024 to 65,536 bytes, a multiple of 64. The calls on words (libhosts.a) read and change: a board
+ * is 128 to 8,192 64-bit words, a multiple of 8. Any image and any words may be passed: a damaged board is refused.
  *
- * Each function answers 0 or more, or -r for the refusal r: the first of enum montebeech_refusal that applies.
+ * Each function answers 0 or more, or -r for the refusal r: the first of enum montebeech_refusal that applies and that
+ * the function has in its list. A refusal leaves every buffer, plan and board as it was.
  *
  * The caller sees to this:
- * - image points to image_len bytes that can be read, out to out_len bytes that can be written. Neither needs an
- *   alignment. Where a length is 0 the pointer is not used and may be NULL.
- * - image and out do not overlap, and nothing else writes to them before the call returns.
- * - The call has its stack: it needs at most MONTEBEECH_STACK_BYTES (80 KiB).
+ * - Each pointer points to as many elements as its length says, which can be read, or written where it is not const.
+ *   Words are aligned as uint64_t is; bytes need no alignment. Where a length is 0 the pointer is not used and may be
+ *   NULL.
+ * - What a function writes overlaps nothing else that it is passed, and nothing else writes to any of it before the call
+ *   returns.
+ * - The call has its stack: at most MONTEBEECH_STACK_BYTES on an image, MONTEBEECH_WORDS_STACK_BYTES on words.
  *
- * Nothing is kept between calls. Threads may call at the same time, each with an out of its own.
+ * Nothing is kept between calls. Threads may call at the same time, each on what the others do not write.
  */
 #ifndef MONTEBEECH_H
 #define MONTEBEECH_H
@@ -27,14 +31,25 @@ extern "C" {
 #define MONTEBEECH_FILES 32            /* files on a board, numbered 0 to 31 */
 #define MONTEBEECH_MOST_BYTES 65536    /* of an image */
 #define MONTEBEECH_GREATEST_SIZE 32768 /* of a file */
-#define MONTEBEECH_STACK_BYTES 81920   /* for one call */
+#define MONTEBEECH_STACK_BYTES 81920   /* for one call on an image */
+#define MONTEBEECH_WORDS_STACK_BYTES 65536 /* for one call on words */
+#define MONTEBEECH_BARRIER UINT64_MAX  /* the address of a pair that is a barrier */
+#define MONTEBEECH_FORMAT_WORDS 166    /* of a plan of format */
 
 enum montebeech_refusal {
-    MONTEBEECH_WORD_COUNT = 1, /* image_len is below 1,024, above 65,536 or not a multiple of 64 */
-    MONTEBEECH_TRAILER = 2,    /* one of the eight words of the last block is not as it should be */
-    MONTEBEECH_DAMAGED = 3,    /* the board is damaged anywhere else, in whichever file */
-    MONTEBEECH_FILE_NUMBER = 4 /* file is above 31 */
+    MONTEBEECH_WORD_COUNT = 1,  /* an image's bytes or a board's words are too few, too many or no whole blocks */
+    MONTEBEECH_TRAILER = 2,     /* one of the eight words of the last block is not as it should be */
+    MONTEBEECH_DAMAGED = 3,     /* the board is damaged anywhere else, in whichever file */
+    MONTEBEECH_FILE_NUMBER = 4, /* file is above 31 */
+    MONTEBEECH_OFFSET = 5,      /* offset is above the file's size */
+    MONTEBEECH_END = 6,         /* the write, or the length, ends above 32,768 */
+    MONTEBEECH_FREE_BLOCKS = 7, /* fewer blocks are free than the plan takes */
+    MONTEBEECH_PLAN_LENGTH = 8, /* plan_len is below two words for each pair */
+    MONTEBEECH_PAIR_COUNT = 9,  /* pairs is above half of plan_len */
+    MONTEBEECH_ADDRESS = 10     /* an address is neither on the board nor MONTEBEECH_BARRIER */
 };
+
+/* ---- Calls on an image */
 
 /* Tells whether the image is a sound board. Answers 0. Refuses 1, 2, 3. */
 int64_t montebeech_check(const uint8_t *image, size_t image_len);
@@ -49,6 +64,45 @@ int64_t montebeech_size(const uint8_t *image, size_t image_len, uint64_t file);
  */
 int64_t montebeech_read(const uint8_t *image, size_t image_len, uint64_t file, uint64_t offset, uint8_t *out,
                         size_t out_len);
+
+/* ---- Calls on words */
+
+/* Tells whether the words are a sound board. Answers 0. Refuses 1, 2, 3. */
+int64_t montebeech_words_check(const uint64_t *board, size_t board_len);
+
+/* Answers the number of free blocks. Refuses 1, 2, 3. */
+int64_t montebeech_words_free_count(const uint64_t *board, size_t board_len);
+
+/* Answers the size of a file in bytes, 0 to 32,768. Refuses 1, 2, 3, 4. */
+int64_t montebeech_words_size(const uint64_t *board, size_t board_len, uint64_t file);
+
+/* As montebeech_read. Refuses 1, 2, 3, 4. */
+int64_t montebeech_words_read(const uint64_t *board, size_t board_len, uint64_t file, uint64_t offset, uint8_t *out,
+                              size_t out_len);
+
+/*
+ * The next three plan a change and store nothing on the board. They write the plan to the start of plan and answer the
+ * number of its pairs; words of plan past it keep their values. A pair is two words, an address on the board and the
+ * value to store there, or MONTEBEECH_BARRIER and 0: a barrier, before which all stores must have arrived. The cabinet
+ * performs the pairs in order, with a barrier of its own after the last store, before another plan is made. If the power
+ * fails on the way, each file reads wholly as before or wholly as after. A plan holds for the board that it was made
+ * from, and for no other.
+ */
+
+/* Plans a write of bytes_len bytes at offset of a file. Refuses 1 to 8. */
+int64_t montebeech_words_write(const uint64_t *board, size_t board_len, uint64_t file, uint64_t offset,
+                               const uint8_t *bytes, size_t bytes_len, uint64_t *plan, size_t plan_len);
+
+/* Plans length as the size of a file: bytes past it are gone, new ones are 0. Refuses 1, 2, 3, 4, 6, 8. */
+int64_t montebeech_words_set_length(const uint64_t *board, size_t board_len, uint64_t file, uint64_t length,
+                                    uint64_t *plan, size_t plan_len);
+
+/* Plans 32 empty files on a board of any contents: 83 pairs. Refuses 1, 8. */
+int64_t montebeech_words_format(const uint64_t *board, size_t board_len, uint64_t *plan, size_t plan_len);
+
+/* Performs the first pairs pairs of a plan on the board and answers their number. Refuses 1, 9, 10. */
+int64_t montebeech_words_perform(uint64_t *board, size_t board_len, const uint64_t *plan, size_t plan_len,
+                                 uint64_t pairs);
 
 #ifdef __cplusplus
 }

@@ -1,2 +1,6 @@
+-- What the proofs of several functions use: pages laid for fresh blocks (Taken), how many there are at most (Room), words with bytes written into them (Splicing), and the
+-- blocks of a fresh tree (Trees).
 pub mod Taken
 pub mod Room
+pub mod Splicing
+pub mod Trees

@@ -1,14 +1,17 @@
 -- Pairs laid into a slice one after another.
 use mathlib.Core.Path.{_≡_, refl, sym, ap, _∙_}
 use mathlib.Core.List.{List, [], _∷_, _++_}
-use Prim.Native.Nat.{ℕ, zero, suc, _+_, _*_, _≤_}
+use Prim.Native.Nat.{ℕ, zero, suc, _+_, _*_, _≤_, _<_}
 use native.Mathlib.Omega.{arith}
 use native.Mathlib.Nat.{add-zero}
+use native.Mathlib.Numerals.{add-one}
 use lib.ListN.{length, set, length-append}
 use lib.Seq.{sets, set-out, length-sets}
-use Rattle.model.specs.Store.{Store, fenced, flat, laid}
+use Rattle.model.specs.Lists.{tabulate}
+use Rattle.model.specs.Store.{Store, store, barrier, fenced, flat, laid}
 use Rattle.model.specs.Plan.{stepEpochs}
 use Rattle.model.proofs.Epochs.{length-flat}
+use Rattle.model.proofs.Perform.{length-tabulate}
 use Rattle.plans.specs.Laying.{closing, Laid}
 
 sets-append : (l : List ℕ) (i : ℕ) (xs ys : List ℕ) → sets l i (xs ++ ys) ≡ sets (sets l i xs) (i + length xs) ys
@@ -35,6 +38,16 @@ laid-append plan p xs ys =
 pub laid-none : (plan : List ℕ) (p : ℕ) → laid plan p [] ≡ plan
 unfolding laid flat
 laid-none plan p = refl
+
+-- a pair is two words
+pub laid-one : (plan : List ℕ) (p a v : ℕ) → laid plan p (store a v ∷ []) ≡ set (set plan (2 * p) a) (2 * p + 1) v
+unfolding laid flat store
+laid-one plan p a v = ap (λ (k : ℕ). set (set plan (2 * p) a) k v) (sym (add-one (2 * p)))
+
+-- one pair more of a table
+pub laid-more : (plan : List ℕ) (p j : ℕ) (f : ℕ → Store) → laid plan p (tabulate (j + 1) f) ≡ laid (laid plan p (tabulate j f)) (p + j) (f j ∷ [])
+unfolding tabulate
+laid-more plan p j f = rw (add-one j, laid-append plan p (tabulate j f) (f j ∷ []), length-tabulate j f)
 
 -- off the slice nothing is laid
 pub laid-out : (plan : List ℕ) (p : ℕ) (ss : List Store) → length plan ≤ p → laid plan p ss ≡ plan
@@ -69,6 +82,20 @@ pub same-length : {plan plan′ : List ℕ} {p p′ : ℕ} {ss : List Store} →
 same-length {plan} {plan′} {p} {p′} {ss} a = ap length (a .is) ∙ length-laid plan p ss
 
 -- ---- Steps
+
+closing-some : (m : ℕ) (s : Store) → 0 < m → closing m s ≡ barrier ∷ s ∷ []
+unfolding closing
+closing-some zero s l = absurd (omega arith)
+closing-some (suc m) s l = refl
+
+-- what ends a step with hidden stores, and one without
+module _ {plan plan₁ plan₂ : List ℕ} {p q : ℕ} (m : ℕ) (s : Store) (last : plan₂ ≡ laid plan₁ q (s ∷ [])) where
+  pub fenced-commit : 0 < m → plan₁ ≡ laid plan p (barrier ∷ []) → q ≡ p + 1 → Laid plan p (closing m s) plan₂ (q + 1)
+  fenced-commit l e z = rw (closing-some m s l) (more (record { is = e; next = z }) (one last))
+
+  pub bare-commit : m ≡ 0 → plan₁ ≡ plan → q ≡ p → Laid plan p (closing m s) plan₂ (q + 1)
+  unfolding closing
+  bare-commit none e z = rw (none, ← e, ← z) (one last)
 
 -- a step's pairs: its hidden stores, and what ends it
 pub step-pairs : (ss : List Store) (s : Store) → fenced (stepEpochs ss s) ≡ ss ++ closing (length ss) s

@@ -1,1 +1,4 @@
 pub mod Room
+pub mod Walking
+pub mod TailStores
+pub mod Hooking

@@ -1,0 +1,134 @@
+-- The measure is the height; the loop has laid the children before j, and their pointers stand in the page.
+use borrow.Author.Needs.{needs}
+use native.Mathlib.Omega.{arith}
+use mathlib.Core.Path.{_∙_}
+use mathlib.Core.Logic.{⊎-elim}
+use native.Mathlib.Nat.{mul-le-mul}
+use lib.ListN.{length}
+use Prim.Native.Nat.{ℕ, _-_, _≤_, _<_}
+use Rattle.plans.specs.Laying.{onto}
+use Rattle.building.proofs.Taken as Taken
+use Rattle.building.proofs.Trees as Trees
+use borrow.Fn.Kinds.{In, Out}
+use borrow.Fn.PlainCycle.{Measures, is, falls, and}
+use Rattle.building.proofs.build.Reads as build
+use Rattle.building.proofs.build.Kinds as kinds
+use Rattle.building.proofs.+build.Lts-build as lts
+use Rattle.building.proofs.minus.Reads as minus-reads
+use Rattle.building.proofs.part.Reads as part-reads
+use Rattle.building.proofs.take.Reads as take-reads
+use Rattle.building.proofs.take_data.Reads as take-data-reads
+use Rattle.plans.proofs.link_on.Reads as link-on-reads
+use Rattle.trees.proofs.span.Reads as span-reads
+use Rattle.words.proofs.word.Reads as word-reads
+use Rattle.building.proofs.+build.{statement}
+use Rattle.building.proofs.+build.Tie.{close}
+
+abbrev μ : Measures 5 kinds.ps ℕ
+μ κs a = a .1 .1 .1 .1 .1 .0
+
+abbrev at : ℕ → In 5 kinds.ps
+at t = and 5 kinds.ps (is 5 kinds.ps μ t) build.Pre
+
+abbrev below : ℕ → In 5 kinds.ps
+below t = and 5 kinds.ps (falls 5 kinds.ps _<_ μ t) build.Pre
+
+abbrev known : ℕ → lts.Claims
+known t = (
+  take-data-reads.Asked, take-data-reads.Learnt, span-reads.Asked, span-reads.Learnt, part-reads.Asked, part-reads.Learnt, link-on-reads.Asked, link-on-reads.Learnt,
+  minus-reads.Asked, minus-reads.Learnt, below t, build.Post, word-reads.Asked, word-reads.Learnt, take-reads.Asked, take-reads.Learnt,
+)
+
+abbrev Inv-loop : lts.InvT-loop
+Inv-loop board grown free plan₀ base h k n o new c s page₀ taken₀ j₀ plan page taken j =
+    (j ≤ 8) × Trees.Children free (onto board grown) (h - 1) k n o new plan₀ base c j plan page taken
+
+abbrev μ-loop : lts.MeasureT-loop
+μ-loop board grown free plan₀ base h k n o new c s page₀ taken₀ j₀ plan page taken j = 8 - j
+
+module _ (t : ℕ) where
+  abbrev N : (lts.Claims → In 5 kinds.ps → Out 5 kinds.ps kinds.r → lts.InvT-loop → lts.MeasureT-loop → Type 0) → Type 0
+  N F = F (known t) (at t) build.Post Inv-loop μ-loop
+
+  returns : N lts.Need-returns
+  returns c = Trees.none _ _ _ _ _ _ _ (c .if1 .taken)
+
+  take-data-requires : N lts.Need-take-data-requires
+  take-data-requires c κs = let a = c .before .before .before .before .before .before .before .before in
+      (a .pre .1 .1, omega (arith, a .pre .1 .2, Trees.need-some (a .args .h) (a .args .o) (length (a .args .new .now)) (c .before .before .if1 .left)))
+
+  returns-2 : N lts.Need-returns-2
+  returns-2 c = Trees.leaf _ _ _ _ _ _ _ (c .before .before .before .before .before .if1 .left) (c .before .before .before .before .if2 .taken)
+      (c .before .before .take-data .ensures)
+
+  loop-holds : N lts.Need-loop-holds
+  loop-holds c = (omega arith, Trees.start)
+
+  mul-first : N lts.Need-mul-first
+  mul-first c = omega (arith, mul-le-mul (c .loop-test .taken) (c .before .before .span .ensures .high))
+
+  build-requires : N lts.Need-build-requires
+  build-requires c κs = let l = c .before .before .before .before .before .before .before in let a = l .before .before .before .before .before .before .before .before .before in
+      let p = c .before .before .before .before .before in
+      let room = Trees.child-fits (l .before .before .before .if1 .left) (l .before .before .if2 .left) (l .loop .inv .1) (a .pre .1 .2) (p .before .loop-test .taken)
+      (l .before .span .ensures .is) (p .part .ensures) (c .minus2 .ensures) in
+      (omega (arith, a .pre .0, l .before .before .if2 .left), (omega (arith, a .pre .1 .0), a .pre .1 .1, room))
+
+  sub-word : N lts.Need-sub-word
+  sub-word c = Trees.taken-some _ _ _ _ _ _ (c .before .before .before .before .before .before .if3 .taken) (c .before .before .build .ensures)
+
+  mul-page : N lts.Need-mul-page
+  mul-page c = let l = c .before .before .before .before .before .before .before .before .before .before .before in
+      let a = l .before .before .before .before .before .before .before .before .before in
+      omega (arith, Trees.block-small _ (a .pre .1 .1) (c .word .ensures))
+
+  loop-again : N lts.Need-loop-again
+  loop-again c = let l = c .before .before .before .before in let less = c .before .before .before .loop-test .taken in
+      let is = l .before .span .ensures .is in let own = c .before .before .part .ensures in let old = c .before .link-on .ensures in
+      ⊎-elim
+      (λ w. rw (w .8, w .9, w .10) (omega arith, Trees.fresh-child (l .loop .inv .1) less is own old (w .0 .taken) (w .2 .ensures) (w .3 .ensures) (w .4 .ensures) (w .7 .ensures)))
+      (⊎-elim
+      (λ w. rw (w .2, w .3, w .4) (omega arith, Trees.old-child (l .loop .inv .1) less is own old (w .0 .left) (w .1 .taken)))
+      (λ w. rw (w .2, w .3, w .4) (omega arith, Trees.dead-child (l .loop .inv .1) less is own old (w .0 .left) (w .1 .left))))
+      (c .if3 .came)
+
+  take-requires : N lts.Need-take-requires
+  take-requires c κs = let l = c .before .before in let a = l .before .before .before .before .before .before .before .before .before in
+      (a .pre .1 .1, Trees.node-fits (l .before .before .before .if1 .left) (l .before .before .if2 .left) (l .loop .inv .1) (a .pre .1 .2) (omega arith) (l .loop .inv .0))
+
+  same-length-2 : N lts.Need-same-length-2
+  same-length-2 c = c .before .before .take .kept .1 .0 ∙ Taken.same-length (c .before .before .before .before .before .loop .inv .1 .took)
+
+  returns-3 : N lts.Need-returns-3
+  returns-3 c = let l = c .before .before .before .before .before in
+      Trees.node (l .before .before .before .if1 .left) (l .before .before .if2 .left) (l .loop .inv .1) (omega arith) (l .loop .inv .0) (c .before .before .take .ensures)
+
+pub +build-spec : {M : Type 1} → statement M
++build-spec = close μ λ t. lts.spec (known t) (at t) build.Post Inv-loop μ-loop
+    (returns t)
+    (take-data-requires t)
+    (λ c. search needs)
+    (returns-2 t)
+    (λ c. omega arith)
+    (λ c κs. search needs)
+    (loop-holds t)
+    (mul-first t)
+    (λ c κs. search needs)
+    (λ c κs. search needs)
+    (λ c. omega arith)
+    (λ c κs. search needs)
+    (λ c κs. search needs)
+    (build-requires t)
+    (sub-word t)
+    (λ c κs. search needs)
+    (mul-page t)
+    (λ c. omega arith)
+    (λ c. search needs)
+    (λ c. omega arith)
+    (λ c. search needs)
+    (λ c. omega arith)
+    (λ c. omega arith)
+    (loop-again t)
+    (take-requires t)
+    (same-length-2 t)
+    (returns-3 t)

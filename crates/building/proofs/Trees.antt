@@ -1,0 +1,206 @@
+-- Fresh trees as they are laid: a block taken, and the pages of a pointer block's children one after another.
+use mathlib.Core.Path.{_≡_, refl, sym, ap, _∙_}
+use mathlib.Core.Logic.{_≢_, inl, inr}
+use mathlib.Core.List.{List, [], _∷_, _++_, append-nil}
+use Prim.Native.Nat.{ℕ, zero, suc, _+_, _-_, _*_, _/_, _^_, _≤_, _<_}
+use native.Mathlib.Omega.{arith}
+use native.Mathlib.Numerals.{add-one, sub-one}
+use lib.ListN.{length, getD, set, length-set, getD-replicate}
+use lib.Seq.{getD-set-same, getD-set-other}
+use Rattle.model.specs.Lists.{joined}
+use Rattle.model.specs.Tree.{seen, span, link}
+use Rattle.model.specs.Store.{Store, store, laid}
+use Rattle.model.specs.Fresh.{Page, part, partLength, need, needBefore, dataPage, freshPointer, pointerPage, build, stored}
+use Rattle.model.proofs.Cases.{decide, tabulate-cong, length-joined}
+use Rattle.model.proofs.Agree.{seen-live, seen-dead}
+use Rattle.model.proofs.Splice.{length-part, choose-zero, choose-pos}
+use Rattle.model.proofs.Built.{kid, kid-lengths, length-build, need-pos, need-suc, room}
+use Rattle.plans.specs.Laying.{blockStores}
+use Rattle.building.specs.Taking.{taking, Blocks, Took}
+use Rattle.plans.proofs.Laying as Laying
+use Rattle.building.proofs.Taken as Taken
+
+-- ---- One block
+
+pub block-small : {free : List ℕ} {k : ℕ} (c : ℕ) → Blocks free → k ≡ getD free c 0 → k < 2 ^ 61
+unfolding taking
+block-small c b e = rw e (b .small c)
+
+pub one : {free plan plan′ : List ℕ} {base c k : ℕ} (ws : List ℕ) → k ≡ getD free c 0 → plan′ ≡ laid plan (base + 8 * c) (blockStores k ws)
+    → Took free plan base c ((λ j. getD ws j 0) ∷ []) plan′ (c + 1)
+unfolding stored taking blockStores
+one {free} {plan} {plan′} {base} {c} {k} ws e l = record {
+  is = rw e at l ∙ ap (laid plan (base + 8 * c)) (sym (append-nil (blockStores (getD free c 0) ws)));
+  next = refl;
+}
+
+-- off the plan nothing is laid
+pub off : {free plan : List ℕ} {base c : ℕ} {p : Page} → length plan ≤ base + 8 * c → Took free plan base c (p ∷ []) plan (c + 1)
+off {free} {plan} {base} {c} {p} h = record { is = sym (Laying.laid-out plan (base + 8 * c) _ h); next = refl }
+
+-- a page by its words, as far as they are laid
+pub by-words : {free plan plan′ : List ℕ} {base c c′ : ℕ} (ws : List ℕ) {p : Page} → ((j : ℕ) → j < 8 → getD ws j 0 ≡ p j)
+    → Took free plan base c ((λ j. getD ws j 0) ∷ []) plan′ c′ → Took free plan base c (p ∷ []) plan′ c′
+unfolding stored
+by-words {free} {plan} {base = base} {c} ws {p} e t = record {
+  is = t .is ∙ ap (λ (l : List Store). laid plan (base + 8 * c) (l ++ []))
+      (tabulate-cong 8 (λ j. store (8 * taking free c + j) (getD ws j 0)) (λ j. store (8 * taking free c + j) (p j)) (λ j l. ap (store (8 * taking free c + j)) (e j l)));
+  next = t .next;
+}
+
+-- ---- What is built
+
+pub built-none : (fresh : ℕ → ℕ) (b : List ℕ) (h k n o : ℕ) (new : List ℕ) (c : ℕ) → length new ≡ 0 → build 8 fresh b h k n o new c ≡ []
+unfolding build
+built-none fresh b zero k n o [] c e = refl
+built-none fresh b (suc h) k n o [] c e = refl
+built-none fresh b zero k n o (x ∷ new) c e = absurd (omega arith)
+built-none fresh b (suc h) k n o (x ∷ new) c e = absurd (omega arith)
+
+pub built-data : (fresh : ℕ → ℕ) (b : List ℕ) (h k n o : ℕ) (new : List ℕ) (c : ℕ) → length new ≢ 0 → h ≡ 0 → build 8 fresh b h k n o new c ≡ dataPage 8 b k n o new ∷ []
+unfolding build
+built-data fresh b zero k n o [] c some e = absurd (some refl)
+built-data fresh b zero k n o (x ∷ new) c some e = refl
+built-data fresh b (suc h) k n o new c some e = absurd (omega arith)
+
+-- a block has words
+pub positive : 0 < 8
+positive = omega arith
+
+module _ (free b : List ℕ) (h k n o : ℕ) (new : List ℕ) (c : ℕ) where
+  -- the pages of child j
+  abbrev pub child : ℕ → List Page
+  child j = kid 8 positive b (taking free) h k n o new c j
+
+  -- the words of the block over them
+  abbrev pub pointers : Page
+  pointers = pointerPage 8 (taking free) b h k n o (length new) c
+
+pub built-tree : (free b : List ℕ) (h k n o : ℕ) (new : List ℕ) (c : ℕ) → length new ≢ 0 → h ≢ 0
+    → joined 8 (child free b (h - 1) k n o new c) ++ (pointers free b (h - 1) k n o new c ∷ []) ≡ build 8 (taking free) b h k n o new c
+unfolding build
+built-tree free b h k n o [] c some tall = absurd (some refl)
+built-tree free b zero k n o (x ∷ new) c some tall = absurd (tall refl)
+built-tree free b (suc h) k n o (x ∷ new) c some tall = rw (sub-one (suc h))
+
+-- The pages of the children before j are laid, and the pointers before j stand in the page, 0 after them
+pub record Children (free b : List ℕ) (h k n o : ℕ) (new plan₀ : List ℕ) (base c j : ℕ) (plan page : List ℕ) (taken : ℕ) : Type 0 where
+  pub took : Took free plan₀ base c (joined j (child free b h k n o new c)) plan taken
+  pub width : length page ≡ 8
+  pub done : (i : ℕ) → i < j → getD page i 0 ≡ pointers free b h k n o new c i
+  pub ahead : (i : ℕ) → j ≤ i → i < 8 → getD page i 0 ≡ 0
+
+module _ {free b : List ℕ} {h k n o : ℕ} {new plan : List ℕ} {base c : ℕ} where
+  pub start : Children free b h k n o new plan base c 0 plan (0 ∷ 0 ∷ 0 ∷ 0 ∷ 0 ∷ 0 ∷ 0 ∷ 0 ∷ []) c
+  unfolding joined
+  start = record { took = Taken.none; width = refl; done = λ i l. absurd (omega arith); ahead = λ i l m. getD-replicate 8 i 0 0 m }
+
+module _ {free b : List ℕ} {h k n o : ℕ} {new plan₀ : List ℕ} {base c j : ℕ} {plan page : List ℕ} {taken : ℕ}
+    (t : Children free b h k n o new plan₀ base c j plan page taken) where
+  -- how many blocks are taken
+  pub taken-before : taken ≡ c + needBefore 8 h o (length new) j
+  taken-before = omega (arith, t .took .next, length-joined j (child free b h k n o new c), kid-lengths 8 positive b (taking free) h k n o new c j)
+
+  -- a turn by which the page changes at j alone
+  turn : {plan′ page′ : List ℕ} {taken′ : ℕ} → Took free plan base taken (child free b h k n o new c j) plan′ taken′ → length page′ ≡ 8
+      → getD page′ j 0 ≡ pointers free b h k n o new c j → ((i : ℕ) → i ≢ j → getD page′ i 0 ≡ getD page i 0) → Children free b h k n o new plan₀ base c (j + 1) plan′ page′ taken′
+  unfolding joined
+  turn {plan′} {page′} {taken′} u w here other = record {
+    took = rw (add-one j) (Taken.more (t .took) u);
+    width = w;
+    done = λ i l. elim (decide i j) [
+      | inl e ↦ rw e here
+      | inr z ↦ other i z ∙ t .done i (omega arith)
+    ];
+    ahead = λ i l m. other i (omega arith) ∙ t .ahead i (omega arith) m;
+  }
+
+  module _ (j-lt : j < 8) where
+    -- a turn that stores at j
+    turn-set : {plan′ : List ℕ} {taken′ v : ℕ} → Took free plan base taken (child free b h k n o new c j) plan′ taken′ → v ≡ pointers free b h k n o new c j
+        → Children free b h k n o new plan₀ base c (j + 1) plan′ (set page j v) taken′
+    turn-set {v = v} u e = turn u (length-set page j v ∙ t .width) (getD-set-same page j v 0 (omega (arith, t .width)) ∙ e) (λ i z. getD-set-other page j i v 0 z)
+
+    module _ {s x : ℕ} {own : List ℕ} (es : s ≡ span 8 h) (eo : own ≡ part s j o new) (ex : x ≡ link 8 b k j) where
+      own-length : length own ≡ partLength (span 8 h) j o (length new)
+      own-length = ap length eo ∙ rw es (length-part (span 8 h) j o new)
+
+      -- nothing is laid for a child with no written byte, and its pointer is the old one
+      nothing : length own ≡ 0 → Took free plan base taken (child free b h k n o new c j) plan taken
+      nothing none = Taken.same-pages (sym (built-none (taking free) b h (link 8 b k j / 8) (n - j * span 8 h) (o - j * span 8 h) (part (span 8 h) j o new)
+          (c + needBefore 8 h o (length new) j) (length-part (span 8 h) j o new ∙ sym own-length ∙ none))) Taken.none
+
+      old : length own ≡ 0 → pointers free b h k n o new c j ≡ seen (n - j * span 8 h) (link 8 b k j)
+      unfolding pointerPage
+      old none = choose-zero (partLength (span 8 h) j o (length new)) _ _ (sym own-length ∙ none)
+
+      pub dead-child : length own ≡ 0 → n ≤ j * s → Children free b h k n o new plan₀ base c (j + 1) plan page taken
+      dead-child none past = turn (nothing none) (t .width)
+          (t .ahead j (omega arith) j-lt ∙ sym (old none ∙ seen-dead (n - j * span 8 h) (link 8 b k j) (omega (arith, rw es at past)))) (λ i z. refl)
+
+      pub old-child : length own ≡ 0 → j * s < n → Children free b h k n o new plan₀ base c (j + 1) plan (set page j x) taken
+      old-child none live = turn-set (nothing none) (ex ∙ sym (old none ∙ seen-live (n - j * span 8 h) (link 8 b k j) (omega (arith, rw es at live))))
+
+      pub fresh-child : {plan′ : List ℕ} {taken′ m o′ block : ℕ} → length own ≢ 0 → m ≡ n - j * s → o′ ≡ o - j * s
+          → Took free plan base taken (build 8 (taking free) b h (x / 8) m o′ own taken) plan′ taken′ → block ≡ getD free (taken′ - 1) 0
+          → Children free b h k n o new plan₀ base c (j + 1) plan′ (set page j (8 * block)) taken′
+      unfolding pointerPage freshPointer taking
+      fresh-child {plan′} {taken′} {m} {o′} {block} some em eo′ u eb =
+          let same : build 8 (taking free) b h (x / 8) m o′ own taken ≡ child free b h k n o new c j = cc (taken-before) in
+          let l : ℕ = partLength (span 8 h) j o (length new) in
+          let count : taken′ ≡ c + needBefore 8 h o (length new) j + need 8 h (o - j * span 8 h) l =
+          omega (arith, u .next, ap length same, taken-before,
+            length-build 8 positive b (taking free) h (link 8 b k j / 8) (n - j * span 8 h) (o - j * span 8 h) (part (span 8 h) j o new) (c + needBefore 8 h o (length new) j),
+            ap (need 8 h (o - j * span 8 h)) (length-part (span 8 h) j o new)) in
+          turn-set (Taken.same-pages same u) (ap (λ (y : ℕ). 8 * y) eb ∙ ap (λ (y : ℕ). 8 * getD free (y - 1) 0) count ∙ sym (choose-pos l _ _ (omega (arith, own-length, some))))
+
+-- ---- The tree
+
+module _ (free b : List ℕ) (h k n o : ℕ) (new : List ℕ) {plan₀ : List ℕ} {base c : ℕ} where
+  pub none : length new ≡ 0 → Took free plan₀ base c (build 8 (taking free) b h k n o new c) plan₀ c
+  none e = Taken.same-pages (sym (built-none (taking free) b h k n o new c e)) Taken.none
+
+  pub leaf : {plan : List ℕ} {taken : ℕ} → length new ≢ 0 → h ≡ 0 → Took free plan₀ base c (dataPage 8 b k n o new ∷ []) plan taken
+      → Took free plan₀ base c (build 8 (taking free) b h k n o new c) plan taken
+  leaf some low = Taken.same-pages (sym (built-data (taking free) b h k n o new c some low))
+
+-- a written byte takes a block
+pub need-some : (h o l : ℕ) → l ≢ 0 → 0 < need 8 h o l
+need-some h o l some = need-pos 8 positive [] (λ i. i) h o l (omega arith)
+
+pub taken-some : {free plan₀ plan : List ℕ} {base c taken : ℕ} (b : List ℕ) (h k n o : ℕ) (new : List ℕ) → length new ≢ 0
+    → Took free plan₀ base c (build 8 (taking free) b h k n o new c) plan taken → 0 < taken
+taken-some {free} {c = c} b h k n o new some t = omega (arith, t .next, length-build 8 positive b (taking free) h k n o new c, need-some h o (length new) some)
+
+need-tall : (h o l : ℕ) → h ≢ 0 → need 8 (suc (h - 1)) o l ≡ need 8 h o l
+need-tall h o l tall = let e : suc (h - 1) ≡ h = omega arith in ap (λ (x : ℕ). need 8 x o l) e
+
+module _ {free b : List ℕ} {h k n o : ℕ} {new plan₀ : List ℕ} {base c j : ℕ} {plan page : List ℕ} {taken : ℕ}
+    (some : length new ≢ 0) (tall : h ≢ 0) (t : Children free b (h - 1) k n o new plan₀ base c j plan page taken) where
+  -- all eight children, and the block over them
+  pub node : {plan′ : List ℕ} {taken′ : ℕ} → 8 ≤ j → j ≤ 8 → Took free plan base taken ((λ i. getD page i 0) ∷ []) plan′ taken′
+      → Took free plan₀ base c (build 8 (taking free) b h k n o new c) plan′ taken′
+  node low high u =
+      let e : j ≡ 8 = omega arith in
+      Taken.same-pages (ap (λ (i : ℕ). joined i (child free b (h - 1) k n o new c) ++ (pointers free b (h - 1) k n o new c ∷ [])) e ∙ built-tree free b h k n o new c some tall)
+      (Taken.more (t .took) (by-words page (λ i l. t .done i (omega arith)) u))
+
+  -- the places of child j's pairs, and of those of the block over all
+  module _ (fits : base + 8 * (c + need 8 h o (length new)) ≤ 2 ^ 32) where
+    pub child-fits : {s o′ : ℕ} {own : List ℕ} → j < 8 → s ≡ span 8 (h - 1) → own ≡ part s j o new → o′ ≡ o - j * s
+        → base + 8 * (taken + need 8 (h - 1) o′ (length own)) ≤ 2 ^ 32
+    child-fits {s} {o′} {own} l es eo e =
+        let same : need 8 (h - 1) o′ (length own) ≡ need 8 (h - 1) (o - j * span 8 (h - 1)) (length (part (span 8 (h - 1)) j o new)) = cc in
+        let all : c + need 8 (suc (h - 1)) o (length new) ≤ c + need 8 h o (length new) = omega (arith, need-tall h o (length new) tall) in
+        omega (arith, same, taken-before t, room 8 positive b (taking free) (h - 1) o new c (c + need 8 h o (length new)) (omega arith) all j l)
+
+    pub node-fits : 8 ≤ j → j ≤ 8 → base + 8 * (taken + 1) ≤ 2 ^ 32
+    node-fits low high =
+        let e : j ≡ 8 = omega arith in
+        omega (
+          arith,
+          taken-before t,
+          need-tall h o (length new) tall,
+          need-suc 8 positive b (taking free) (h - 1) o (length new) (omega arith),
+          ap (needBefore 8 (h - 1) o (length new)) e,
+        )
