@@ -25,7 +25,7 @@ use Rattle.model.proofs.Perform.{length-tabulate, pageStore, length-stored}
 use Rattle.model.proofs.Formatted.{clears, commits, trailerStore, pages, filling, length-pages, format-epochs, format-pairs, house-fits}
 use Rattle.plans.specs.Laying.{blockStores, Laid}
 use Rattle.plans.proofs.Laying as Laying
-use Rattle.performing.specs.Results.{FormatResult}
+use Rattle.plans.specs.Laying.{PlanResult}
 
 -- ---- Blocks 1 to 9
 
@@ -107,19 +107,19 @@ answer-shape : (b l : List ℕ) → format house b l .answer
 unfolding format planned wordCountFault answered
 answer-shape b l = rw (format-pairs house house-fits b)
 
-module _ {b l : List ℕ} where
-  refused : {f : Fault} → Refused f ≡ format house b l .answer → FormatResult b l (Refused f) l
+module _ (b l : List ℕ) where
+  refused : {f : Fault} → Refused f ≡ format house b l .answer → PlanResult (format house b l) (Refused f) l
   unfolding format planned unlessRefused
   refused e = record { answer = e; plan = rw (← e) }
 
-  pub miscounted : {w : Bool} → w ≡ wordCountSound house b → w ≡ false → FormatResult b l (Refused WordCount) l
+  pub miscounted : {w : Bool} → w ≡ wordCountSound house b → w ≡ false → PlanResult (format house b l) (Refused WordCount) l
   miscounted e z = refused (sym (answer-shape b l ∙ rw (← e, z)))
 
   module _ {w : Bool} (ew : w ≡ wordCountSound house b) (zw : w ≡ true) where
-    pub short : length l < 166 → FormatResult b l (Refused PlanLength) l
+    pub short : length l < 166 → PlanResult (format house b l) (Refused PlanLength) l
     short h = refused (sym (answer-shape b l ∙ rw (← ew, zw, lt-ltb (length l) 166 h)))
 
-    pub done : {l′ : List ℕ} → 166 ≤ length l → l′ ≡ laid l 0 (pairs (formatPlan house b)) → FormatResult b l (Done 83) l′
+    pub done : {l′ : List ℕ} → 166 ≤ length l → l′ ≡ laid l 0 (pairs (formatPlan house b)) → PlanResult (format house b l) (Done 83) l′
     unfolding format planned unlessRefused
     done h e =
         let answer : format house b l .answer ≡ Done 83 = answer-shape b l ∙ rw (← ew, zw, le-ltb (length l) 166 h) in

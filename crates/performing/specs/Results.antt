@@ -1,15 +1,11 @@
--- What perform and format answer and leave: the definition's, on all inputs.
+-- What perform answers and leaves: the definition's, on all inputs.
 use mathlib.Core.Path.{_≡_}
 use mathlib.Core.List.{List}
 use Prim.Native.Nat.{ℕ}
 use Rattle.model.specs.declared.Answer.{Answer}
 use Rattle.model.specs.Layout.{house}
-use Rattle.model.specs.Calls.{format, performAnswer, performBoard}
+use Rattle.model.specs.Calls.{performAnswer, performBoard}
 
 pub record PerformResult (b slice : List ℕ) (k : ℕ) (r : Answer) (b′ : List ℕ) : Type 0 where
   pub answer : r ≡ performAnswer house b slice k
   pub board : b′ ≡ performBoard house b slice k
-
-pub record FormatResult (b slice : List ℕ) (r : Answer) (slice′ : List ℕ) : Type 0 where
-  pub answer : r ≡ format house b slice .answer
-  pub plan : slice′ ≡ format house b slice .slice

@@ -21,7 +21,9 @@ ghost use Rattle.model.specs.Store.{isBarrier, performed, stores, paired, laid}
 ghost use Rattle.model.specs.Plan.{pairs};
 ghost use Rattle.model.specs.Fresh.{stored};
 ghost use Rattle.model.specs.Format.{inodePage, formatPages, trailerStores, formatPlan};
-ghost use Rattle.performing.specs.Results.{PerformResult, FormatResult};
+ghost use Rattle.model.specs.Calls.{format};
+ghost use Rattle.plans.specs.Laying.{PlanResult};
+ghost use Rattle.performing.specs.Results.{PerformResult};
 
 // Whether each of the first k addresses of a plan is on a board of so many words or a barrier's.
 fn addresses_sound(words: u64, plan: &[u64], k: u64) -> bool
@@ -111,7 +113,7 @@ fn lay_format(board: &[u64], plan: &mut [u64])
 
 // Format: plans 32 empty files on a board. Answers the pair count, or refused 1, 8.
 pub fn format(board: &[u64], plan: &mut [u64]) -> Answer
-    ensures { λ r. ⌜ FormatResult (now (board .entry)) (now (plan .entry)) r (now (plan .exit)) ⌝ }
+    ensures { λ r. ⌜ PlanResult (format house (now (board .entry)) (now (plan .entry))) r (now (plan .exit)) ⌝ }
 {
     if !word_count_sound(board) {
         return Answer::Refused(Fault::WordCount);
