@@ -2,19 +2,13 @@
  * Tests of check, size and read as C calls them. The boards are made here word by word, from the document's format.
  * Block 0, free blocks and dead words hold rubbish, since they must decide nothing.
  */
-#define _DEFAULT_SOURCE /* mmap and contexts */
+#include "testing.h"
+
 #include "montebeech.h"
 #include "random.h"
 
 #include <inttypes.h>
-#include <stdarg.h>
-#include <stdbool.h>
-#include <stdio.h>
-#include <stdlib.h>
 #include <string.h>
-#include <sys/mman.h>
-#include <ucontext.h>
-#include <unistd.h>
 
 enum { MOST_WORDS = 8192, GREATEST = MONTEBEECH_GREATEST_SIZE, FILES = MONTEBEECH_FILES };
 enum { LONGEST_IMAGE = 131072, MOST_OUT = GREATEST + 1000, MARGIN = 64, SOUND = 0 };
@@ -26,44 +20,7 @@ enum { LONGEST_IMAGE = 131072, MOST_OUT = GREATEST + 1000, MARGIN = 64, SOUND = 
 
 static const uint64_t span[4] = {64, 512, 4096, 32768};
 
-/* ---- Counting */
-
-static unsigned long tests, failed;
-static char subject[200];
-
-/* Names what the tests that follow are about. */
-__attribute__((format(printf, 1, 2))) static void about(const char *format, ...)
-{
-    va_list args;
-    va_start(args, format);
-    vsnprintf(subject, sizeof subject, format, args);
-    va_end(args);
-}
-
-/* Counts a test, and says whether it failed, so that the caller prints the rest of the line. */
-static bool fails(bool as_expected)
-{
-    tests++;
-    if (as_expected)
-        return false;
-    failed++;
-    printf("%s: ", subject);
-    return true;
-}
-
 /* ---- Lent memory */
-
-/* The end of memory behind which lies a page that cannot be touched: a byte used past the end stops the program. */
-static uint8_t *memory_before_wall(size_t bytes)
-{
-    size_t page = (size_t)sysconf(_SC_PAGESIZE), whole = (bytes + page - 1) / page * page;
-    uint8_t *at = mmap(NULL, whole + page, PROT_READ | PROT_WRITE, MAP_PRIVATE | MAP_ANONYMOUS, -1, 0);
-    if (at == MAP_FAILED || mprotect(at + whole, page, PROT_NONE) != 0) {
-        perror("memory for the tests");
-        exit(2);
-    }
-    return at + whole;
-}
 
 static uint8_t *image_end, *out_end;
 static uint8_t *image; /* what the calls are lent */
@@ -848,10 +805,9 @@ static void alignments(void)
 
 /* ---- Stack */
 
-static ucontext_t here, there;
 static unsigned which_call;
 
-static void call_on_its_stack(void)
+static void call_for_stack(void)
 {
     static uint8_t out[GREATEST];
     switch (which_call) {
@@ -866,26 +822,6 @@ static void call_on_its_stack(void)
     }
 }
 
-/* How much of a painted stack the call writes to. */
-static size_t stack_used(void)
-{
-    enum { ROOM = 1024 * 1024, PAINT = 0xc5 };
-    static uint8_t stack[ROOM] __attribute__((aligned(64)));
-    memset(stack, PAINT, ROOM);
-    if (getcontext(&there) != 0)
-        exit(2);
-    there.uc_stack.ss_sp = stack;
-    there.uc_stack.ss_size = ROOM;
-    there.uc_link = &here;
-    makecontext(&there, call_on_its_stack, 0);
-    if (swapcontext(&here, &there) != 0)
-        exit(2);
-    size_t untouched = 0;
-    while (untouched < ROOM && stack[untouched] == PAINT)
-        untouched++;
-    return ROOM - untouched;
-}
-
 static void stack_suffices(void)
 {
     size_t most = 0;
@@ -894,7 +830,7 @@ static void stack_suffices(void)
     put_file(0, 3, GREATEST, everywhere);
     lend_board();
     for (which_call = 0; which_call < 3; which_call++) {
-        size_t used = stack_used();
+        size_t used = stack_used(call_for_stack);
         most = used > most ? used : most;
         if (fails(used <= MONTEBEECH_STACK_BYTES))
             printf("expected at most %d bytes, found %zu\n", MONTEBEECH_STACK_BYTES, used);

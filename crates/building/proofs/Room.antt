@@ -1,11 +1,9 @@
 -- How many fresh blocks a tree takes at most, so that the places of their pairs are words.
-use mathlib.Core.Path.{_≡_}
 use Prim.Native.Nat.{ℕ, zero, suc, _+_, _-_, _*_, _≤_}
 use native.Mathlib.Omega.{arith}
 use Rattle.model.specs.Lists.{sum}
 use Rattle.model.specs.Tree.{span}
 use Rattle.model.specs.Fresh.{partLength, need}
-use Rattle.model.proofs.Sums.{sum-le}
 
 -- the blocks of a whole tree
 unfoldable pub most : ℕ → ℕ

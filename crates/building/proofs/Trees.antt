@@ -1,7 +1,7 @@
--- Fresh trees as they are laid: a block taken, and the pages of a pointer block's children one after another.
+-- Fresh trees as they are laid: the pages of a pointer block's children one after another, then its own.
 use mathlib.Core.Path.{_≡_, refl, sym, ap, _∙_}
 use mathlib.Core.Logic.{_≢_, inl, inr}
-use mathlib.Core.List.{List, [], _∷_, _++_, append-nil}
+use mathlib.Core.List.{List, [], _∷_, _++_}
 use Prim.Native.Nat.{ℕ, zero, suc, _+_, _-_, _*_, _/_, _^_, _≤_, _<_}
 use native.Mathlib.Omega.{arith}
 use native.Mathlib.Numerals.{add-one, sub-one}
@@ -9,44 +9,13 @@ use lib.ListN.{length, getD, set, length-set, getD-replicate}
 use lib.Seq.{getD-set-same, getD-set-other}
 use Rattle.model.specs.Lists.{joined}
 use Rattle.model.specs.Tree.{seen, span, link}
-use Rattle.model.specs.Store.{Store, store, laid}
-use Rattle.model.specs.Fresh.{Page, part, partLength, need, needBefore, dataPage, freshPointer, pointerPage, build, stored}
-use Rattle.model.proofs.Cases.{decide, tabulate-cong, length-joined}
+use Rattle.model.specs.Fresh.{Page, part, partLength, need, needBefore, dataPage, freshPointer, pointerPage, build}
+use Rattle.model.proofs.Cases.{decide, length-joined}
 use Rattle.model.proofs.Agree.{seen-live, seen-dead}
 use Rattle.model.proofs.Splice.{length-part, choose-zero, choose-pos}
 use Rattle.model.proofs.Built.{kid, kid-lengths, length-build, need-pos, need-suc, room}
-use Rattle.plans.specs.Laying.{blockStores}
-use Rattle.building.specs.Taking.{taking, Blocks, Took}
-use Rattle.plans.proofs.Laying as Laying
+use Rattle.building.specs.Taking.{taking, Took}
 use Rattle.building.proofs.Taken as Taken
-
--- ---- One block
-
-pub block-small : {free : List ℕ} {k : ℕ} (c : ℕ) → Blocks free → k ≡ getD free c 0 → k < 2 ^ 61
-unfolding taking
-block-small c b e = rw e (b .small c)
-
-pub one : {free plan plan′ : List ℕ} {base c k : ℕ} (ws : List ℕ) → k ≡ getD free c 0 → plan′ ≡ laid plan (base + 8 * c) (blockStores k ws)
-    → Took free plan base c ((λ j. getD ws j 0) ∷ []) plan′ (c + 1)
-unfolding stored taking blockStores
-one {free} {plan} {plan′} {base} {c} {k} ws e l = record {
-  is = rw e at l ∙ ap (laid plan (base + 8 * c)) (sym (append-nil (blockStores (getD free c 0) ws)));
-  next = refl;
-}
-
--- off the plan nothing is laid
-pub off : {free plan : List ℕ} {base c : ℕ} {p : Page} → length plan ≤ base + 8 * c → Took free plan base c (p ∷ []) plan (c + 1)
-off {free} {plan} {base} {c} {p} h = record { is = sym (Laying.laid-out plan (base + 8 * c) _ h); next = refl }
-
--- a page by its words, as far as they are laid
-pub by-words : {free plan plan′ : List ℕ} {base c c′ : ℕ} (ws : List ℕ) {p : Page} → ((j : ℕ) → j < 8 → getD ws j 0 ≡ p j)
-    → Took free plan base c ((λ j. getD ws j 0) ∷ []) plan′ c′ → Took free plan base c (p ∷ []) plan′ c′
-unfolding stored
-by-words {free} {plan} {base = base} {c} ws {p} e t = record {
-  is = t .is ∙ ap (λ (l : List Store). laid plan (base + 8 * c) (l ++ []))
-      (tabulate-cong 8 (λ j. store (8 * taking free c + j) (getD ws j 0)) (λ j. store (8 * taking free c + j) (p j)) (λ j l. ap (store (8 * taking free c + j)) (e j l)));
-  next = t .next;
-}
 
 -- ---- What is built
 
@@ -183,7 +152,7 @@ module _ {free b : List ℕ} {h k n o : ℕ} {new plan₀ : List ℕ} {base c j 
   node low high u =
       let e : j ≡ 8 = omega arith in
       Taken.same-pages (ap (λ (i : ℕ). joined i (child free b (h - 1) k n o new c) ++ (pointers free b (h - 1) k n o new c ∷ [])) e ∙ built-tree free b h k n o new c some tall)
-      (Taken.more (t .took) (by-words page (λ i l. t .done i (omega arith)) u))
+      (Taken.more (t .took) (Taken.by-words page (λ i l. t .done i (omega arith)) u))
 
   -- the places of child j's pairs, and of those of the block over all
   module _ (fits : base + 8 * (c + need 8 h o (length new)) ≤ 2 ^ 32) where

@@ -11,14 +11,14 @@ use Rattle.model.specs.Tree.{span, cell, link}
 use Rattle.model.specs.Store.{Store, store, laid}
 use Rattle.model.specs.Fresh.{Page, part, partLength, need, build}
 use Rattle.model.specs.InPlace.{tailNeed, tailBefore, tailPages, tailWords, hooked, inPlace}
-use Rattle.model.proofs.Agree.{link-cell}
 use Rattle.model.proofs.Cases.{joined-none, length-joined}
 use Rattle.model.proofs.Sums.{sum-cong, sum-next}
+use Rattle.model.proofs.Agree.{link-cell}
 use Rattle.model.proofs.Splice.{length-part}
 use Rattle.model.proofs.Tailed.{tailNeed-dead, length-tail}
 use Rattle.plans.specs.Laying.{Laid}
-use Rattle.building.specs.Taking.{taking, Took}
 use Rattle.plans.proofs.Laying as Laying
+use Rattle.building.specs.Taking.{taking, Took}
 use Rattle.building.proofs.Taken as Taken
 
 joined-next : {A : Type 0} (j : ℕ) (f : ℕ → List A) → joined (j + 1) f ≡ joined j f ++ f j

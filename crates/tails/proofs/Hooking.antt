@@ -1,12 +1,12 @@
 -- The pointer to a fresh tree, by how many blocks are taken once it is built.
 use mathlib.Core.Path.{_≡_, ap, _∙_}
 use mathlib.Core.List.{List}
-use Prim.Native.Nat.{ℕ, _+_, _-_, _*_, _^_, _<_}
+use Prim.Native.Nat.{ℕ, _+_, _-_, _*_, _<_}
 use native.Mathlib.Omega.{arith}
 use lib.ListN.{length, getD}
 use Rattle.model.specs.Fresh.{need, freshPointer, build}
 use Rattle.model.proofs.Built.{length-build, need-pos}
-use Rattle.building.specs.Taking.{taking, Blocks, Took}
+use Rattle.building.specs.Taking.{taking, Took}
 use Rattle.tails.specs.Hooks.{hooks}
 
 module _ (b : List ℕ) (h : ℕ) (new : List ℕ) {free plan plan′ : List ℕ} {base c c′ : ℕ} (t : Took free plan base c (build 8 (taking free) b h 0 0 0 new c) plan′ c′) where
@@ -20,7 +20,3 @@ module _ (b : List ℕ) (h : ℕ) (new : List ℕ) {free plan plan′ : List ℕ
   pub last : {w : ℕ} → w ≡ getD free (c′ - 1) 0 → 8 * w ≡ hooks free h (length new) c
   unfolding hooks freshPointer taking
   last e = rw (← taken, ← e)
-
-pub small : {free : List ℕ} (i : ℕ) {w : ℕ} → Blocks free → w ≡ getD free i 0 → w < 2 ^ 61
-unfolding taking
-small i s e = rw e (s .small i)

@@ -1,5 +1,4 @@
 -- How many fresh blocks and how many other stores a write at the end takes at most.
-use mathlib.Core.Path.{_≡_, _∙_}
 use mathlib.Core.List.{List, [], _∷_}
 use Prim.Native.Nat.{ℕ, zero, suc, _+_, _-_, _*_, _/_, _≤_}
 use native.Mathlib.Omega.{arith}
@@ -7,7 +6,7 @@ use lib.ListN.{length}
 use Rattle.model.specs.Lists.{choose}
 use Rattle.model.specs.Tree.{span, cell}
 use Rattle.model.specs.Store.{Store, store}
-use Rattle.model.specs.Fresh.{part, partLength, need, dataPage}
+use Rattle.model.specs.Fresh.{part, partLength, dataPage}
 use Rattle.model.specs.InPlace.{tailNeed, tailBefore, tailWords, hooked, inPlace}
 use Rattle.model.proofs.Cases.{length-joined}
 use Rattle.building.proofs.Room.{most, eight, need-most}

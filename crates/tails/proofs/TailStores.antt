@@ -3,8 +3,8 @@ use mathlib.Core.Path.{_≡_, sym, ap, _∙_}
 use mathlib.Core.Logic.{_≢_}
 use mathlib.Core.List.{List, [], _∷_}
 use Prim.Native.Nat.{ℕ, _+_, _*_, _≤_, _<_}
-use native.Mathlib.Numerals.{add-one}
 use native.Mathlib.Omega.{arith}
+use native.Mathlib.Numerals.{add-one}
 use lib.ListN.{length}
 use Rattle.model.specs.Lists.{joined, choose}
 use Rattle.model.specs.Words.{wordOf}
@@ -15,8 +15,8 @@ use Rattle.model.specs.InPlace.{tailWords}
 use Rattle.model.proofs.Agree.{link-cell}
 use Rattle.model.proofs.Splice.{choose-zero, choose-pos, length-part}
 use Rattle.plans.specs.Laying.{Laid}
-use Rattle.building.specs.Taking.{splicedByte}
 use Rattle.plans.proofs.Laying as Laying
+use Rattle.building.specs.Taking.{splicedByte}
 use Rattle.building.proofs.Splicing.{data-word}
 
 -- the store to word j, if bytes of it are written

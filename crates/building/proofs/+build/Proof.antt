@@ -1,28 +1,28 @@
 -- The measure is the height; the loop has laid the children before j, and their pointers stand in the page.
-use borrow.Author.Needs.{needs}
-use native.Mathlib.Omega.{arith}
 use mathlib.Core.Path.{_∙_}
 use mathlib.Core.Logic.{⊎-elim}
+use Prim.Native.Nat.{ℕ, _-_, _≤_, _<_}
+use native.Mathlib.Omega.{arith}
 use native.Mathlib.Nat.{mul-le-mul}
 use lib.ListN.{length}
-use Prim.Native.Nat.{ℕ, _-_, _≤_, _<_}
-use Rattle.plans.specs.Laying.{onto}
-use Rattle.building.proofs.Taken as Taken
-use Rattle.building.proofs.Trees as Trees
+use borrow.Author.Needs.{needs}
 use borrow.Fn.Kinds.{In, Out}
 use borrow.Fn.PlainCycle.{Measures, is, falls, and}
-use Rattle.building.proofs.build.Reads as build
-use Rattle.building.proofs.build.Kinds as kinds
+use Rattle.words.proofs.word.Reads as word-reads
+use Rattle.trees.proofs.span.Reads as span-reads
+use Rattle.plans.specs.Laying.{onto}
+use Rattle.plans.proofs.link_on.Reads as link-on-reads
+use Rattle.building.proofs.+build.{statement}
 use Rattle.building.proofs.+build.Lts-build as lts
+use Rattle.building.proofs.+build.Tie.{close}
+use Rattle.building.proofs.Taken as Taken
+use Rattle.building.proofs.Trees as Trees
+use Rattle.building.proofs.build.Kinds as kinds
+use Rattle.building.proofs.build.Reads as build
 use Rattle.building.proofs.minus.Reads as minus-reads
 use Rattle.building.proofs.part.Reads as part-reads
 use Rattle.building.proofs.take.Reads as take-reads
 use Rattle.building.proofs.take_data.Reads as take-data-reads
-use Rattle.plans.proofs.link_on.Reads as link-on-reads
-use Rattle.trees.proofs.span.Reads as span-reads
-use Rattle.words.proofs.word.Reads as word-reads
-use Rattle.building.proofs.+build.{statement}
-use Rattle.building.proofs.+build.Tie.{close}
 
 abbrev μ : Measures 5 kinds.ps ℕ
 μ κs a = a .1 .1 .1 .1 .1 .0
@@ -80,7 +80,7 @@ module _ (t : ℕ) where
   mul-page : N lts.Need-mul-page
   mul-page c = let l = c .before .before .before .before .before .before .before .before .before .before .before in
       let a = l .before .before .before .before .before .before .before .before .before in
-      omega (arith, Trees.block-small _ (a .pre .1 .1) (c .word .ensures))
+      omega (arith, Taken.block-small _ (a .pre .1 .1) (c .word .ensures))
 
   loop-again : N lts.Need-loop-again
   loop-again c = let l = c .before .before .before .before in let less = c .before .before .before .loop-test .taken in

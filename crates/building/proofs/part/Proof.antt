@@ -1,5 +1,5 @@
-use native.Mathlib.Nat.{mul-le-mul}
 use native.Mathlib.Omega.{arith}
+use native.Mathlib.Nat.{mul-le-mul}
 use borrow.Author.Needs.{needs}
 use Rattle.building.proofs.Splicing.{part-past, part-rest, part-amid}
 use Rattle.building.proofs.part.Statement.{statement}

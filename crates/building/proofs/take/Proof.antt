@@ -1,13 +1,13 @@
 use borrow.Author.Needs.{needs}
-use Rattle.building.proofs.Trees as Trees
+use Rattle.building.proofs.Taken as Taken
 use Rattle.building.proofs.take.Statement.{statement}
 use Rattle.building.proofs.take.Tie as tie
 
 block-requires : tie.Need-block-requires
-block-requires c κs = Trees.block-small _ (c .before .before .before .before .pre .0) (c .word .ensures)
+block-requires c κs = Taken.block-small _ (c .before .before .before .before .pre .0) (c .word .ensures)
 
 returns : tie.Need-returns
-returns c = Trees.one _ (c .before .before .before .word .ensures) (c .before .before .block .ensures)
+returns c = Taken.one _ (c .before .before .before .word .ensures) (c .before .before .block .ensures)
 
 pub take-spec : {M : Type 1} → statement M
 take-spec =

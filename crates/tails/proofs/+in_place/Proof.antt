@@ -1,31 +1,31 @@
 -- The measure is the height; the loop has laid the stores under the children below j, and counted the blocks taken for their pages.
-use borrow.Author.Needs.{needs}
-use native.Mathlib.Omega.{arith}
-use native.Mathlib.Nat.{mul-le-mul}
 use mathlib.Core.Path.{sym, ap}
 use mathlib.Core.Logic.{⊎-elim}
 use Prim.Native.Nat.{ℕ, _-_, _≤_, _<_}
+use native.Mathlib.Omega.{arith}
+use native.Mathlib.Nat.{mul-le-mul}
 use lib.ListN.{length}
-use Rattle.plans.specs.Laying.{onto}
-use Rattle.tails.specs.Hooks.{hooks}
-use Rattle.plans.proofs.Laying as Laying
-use Rattle.building.proofs.Taken as Taken
-use Rattle.tails.proofs.Children as Children
+use borrow.Author.Needs.{needs}
 use borrow.Fn.Kinds.{In, Out}
 use borrow.Fn.PlainCycle.{Measures, is, falls, and}
-use Rattle.tails.proofs.in_place.Reads as in-place
-use Rattle.tails.proofs.in_place.Kinds as kinds
-use Rattle.tails.proofs.+in_place.Lts-in_place as lts
-use Rattle.building.proofs.minus.Reads as minus-reads
-use Rattle.building.proofs.part.Reads as part-reads
+use Rattle.trees.proofs.span.Reads as span-reads
+use Rattle.plans.specs.Laying.{onto}
+use Rattle.plans.proofs.Laying as Laying
 use Rattle.plans.proofs.cell_on.Reads as cell-on-reads
 use Rattle.plans.proofs.pair.Reads as pair-reads
+use Rattle.building.proofs.Taken as Taken
+use Rattle.building.proofs.minus.Reads as minus-reads
+use Rattle.building.proofs.part.Reads as part-reads
+use Rattle.tails.specs.Hooks.{hooks}
+use Rattle.tails.proofs.+in_place.{statement}
+use Rattle.tails.proofs.+in_place.Lts-in_place as lts
+use Rattle.tails.proofs.+in_place.Tie.{close}
+use Rattle.tails.proofs.Children as Children
 use Rattle.tails.proofs.hook.Reads as hook-reads
+use Rattle.tails.proofs.in_place.Kinds as kinds
+use Rattle.tails.proofs.in_place.Reads as in-place
 use Rattle.tails.proofs.tail_pages.Reads as tail-pages-reads
 use Rattle.tails.proofs.tail_words.Reads as tail-words-reads
-use Rattle.trees.proofs.span.Reads as span-reads
-use Rattle.tails.proofs.+in_place.{statement}
-use Rattle.tails.proofs.+in_place.Tie.{close}
 
 abbrev μ : Measures 5 kinds.ps ℕ
 μ κs a = a .1 .1 .1 .1 .1 .0

@@ -1,25 +1,25 @@
 -- The measure is the height; the loop has laid the pages under the children below j.
-use borrow.Author.Needs.{needs}
-use native.Mathlib.Omega.{arith}
-use native.Mathlib.Nat.{mul-le-mul}
 use mathlib.Core.Logic.{⊎-elim}
 use Prim.Native.Nat.{ℕ, _-_, _≤_, _<_}
+use native.Mathlib.Omega.{arith}
+use native.Mathlib.Nat.{mul-le-mul}
 use lib.ListN.{length}
-use Rattle.plans.specs.Laying.{onto}
-use Rattle.building.proofs.Taken as Taken
-use Rattle.tails.proofs.Children as Children
+use borrow.Author.Needs.{needs}
 use borrow.Fn.Kinds.{In, Out}
 use borrow.Fn.PlainCycle.{Measures, is, falls, and}
-use Rattle.tails.proofs.tail_pages.Reads as tail-pages
-use Rattle.tails.proofs.tail_pages.Kinds as kinds
-use Rattle.tails.proofs.+tail_pages.Lts-tail_pages as lts
+use Rattle.trees.proofs.span.Reads as span-reads
+use Rattle.plans.specs.Laying.{onto}
+use Rattle.plans.proofs.link_on.Reads as link-on-reads
+use Rattle.building.proofs.Taken as Taken
 use Rattle.building.proofs.build.Reads as build-reads
 use Rattle.building.proofs.minus.Reads as minus-reads
 use Rattle.building.proofs.part.Reads as part-reads
-use Rattle.plans.proofs.link_on.Reads as link-on-reads
-use Rattle.trees.proofs.span.Reads as span-reads
 use Rattle.tails.proofs.+tail_pages.{statement}
+use Rattle.tails.proofs.+tail_pages.Lts-tail_pages as lts
 use Rattle.tails.proofs.+tail_pages.Tie.{close}
+use Rattle.tails.proofs.Children as Children
+use Rattle.tails.proofs.tail_pages.Kinds as kinds
+use Rattle.tails.proofs.tail_pages.Reads as tail-pages
 
 abbrev μ : Measures 5 kinds.ps ℕ
 μ κs a = a .1 .1 .1 .1 .1 .0

@@ -2,7 +2,8 @@ use Prim.Native.Nat.{_-_}
 use native.Mathlib.Omega.{arith}
 use borrow.Author.Needs.{needs}
 use Rattle.plans.specs.Laying.{onto}
-use Rattle.tails.proofs.Hooking.{some, last, small}
+use Rattle.building.proofs.Taken.{block-small}
+use Rattle.tails.proofs.Hooking.{some, last}
 use Rattle.tails.proofs.hook.Statement.{statement}
 use Rattle.tails.proofs.hook.Tie as tie
 
@@ -16,7 +17,7 @@ sub-word c =
 mul-result : tie.Need-mul-result
 mul-result c =
     let k = c .before .before in
-    omega (arith, small (k .build .result - 1) (k .before .before .before .before .before .before .pre .1) (c .word .ensures))
+    omega (arith, block-small (k .build .result - 1) (k .before .before .before .before .before .before .pre .1) (c .word .ensures))
 
 returns : tie.Need-returns
 returns c =

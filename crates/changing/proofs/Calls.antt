@@ -1,0 +1,304 @@
+-- The ways out of the calls that change a file, and of the questions they ask first.
+use mathlib.Core.Path.{_≡_, refl, sym, ap, _∙_}
+use mathlib.Core.Logic.{inl, inr}
+use mathlib.Core.Bool.{Bool, true, false, _&&_}
+use mathlib.Core.List.{List, [], _∷_, _++_}
+use Prim.Native.Nat.{ℕ, zero, suc, _+_, _*_, _/_, _%_, _≤_, _<_}
+use native.Mathlib.Omega.{arith}
+use lib.ListN.{length, getD}
+use lib.Dec.{T, ltb, lit<}
+use borrow.Author.Tests.{ltb-true, lt-ltb, le-ltb}
+use Rattle.model.specs.declared.Fault.{Fault}
+use Rattle.model.specs.declared.Fault.the-variants.{Offset, End, FreeBlocks, PlanLength}
+use Rattle.model.specs.declared.Answer.{Answer}
+use Rattle.model.specs.declared.Answer.the-variants.{Done, Refused}
+use Rattle.model.specs.Lists.{concat}
+use Rattle.model.specs.Layout.{house, files}
+use Rattle.model.specs.Tree.{live, span, least}
+use Rattle.model.specs.Board.{greatest, sizeAddress, root, size, wordCountSound, trailerSound, treesSound, accepted, free}
+use Rattle.model.specs.Store.{Store, performed, fenced, laid}
+use Rattle.model.specs.Plan.{Plan, plan, pairs, planEpochs, afterwards}
+use Rattle.model.specs.Change.{growthTo, growth, singleBlock, writePlan, lengthPlan}
+use Rattle.model.specs.Answers.{Faults, answered, unlessRefused}
+use Rattle.model.specs.Calls.{wordCountFault, boardFaults, fileFaults, checkAnswer, Planned, planned, lowest, writeFaults, write, setLength}
+use Rattle.model.proofs.Cases.{split, true-right, is-true, and-left, and-right}
+use Rattle.model.proofs.Spans.{least-within, least-above}
+use Rattle.model.proofs.Accepting.{facts}
+use Rattle.model.proofs.Formatted.{house-fits}
+use Rattle.model.proofs.Refusals.{first-refused, first-done}
+use Rattle.model.proofs.Ways.{taken-from}
+use Rattle.boards.proofs.Surveying.{sound}
+use Rattle.reading.proofs.Answering.{file-refused, file-none, file-there}
+use Rattle.trees.specs.Trees.{Spanned}
+use Rattle.plans.specs.Laying.{Laid}
+use Rattle.building.specs.Taking.{taking}
+use Rattle.ways.specs.Planning.{AddressOf, PlanLaid}
+use Rattle.ways.specs.declared.Count.{Count}
+use Rattle.changing.specs.Results.{growing, File, Stocked, WriteResult, SetLengthResult}
+use Rattle.plans.proofs.Laying.{laid-none}
+
+-- ---- Whether a tree grows
+
+live-some : (n : ℕ) → (n ≡ 0 → ⊥) → live n ≡ true
+unfolding live
+live-some zero d = absurd (d refl)
+live-some (suc n) d = refl
+
+module _ {b : List ℕ} {f a w : ℕ} (at : AddressOf b f a) (ew : w ≡ getD b (a + 1) 0) where
+  size-is : size house b f ≡ w
+  unfolding size sizeAddress
+  size-is = sym (ew ∙ rw (at .is))
+
+  pub empty-stays : (e : ℕ) → w ≡ 0 → false ≡ growing b f e
+  unfolding growing live
+  empty-stays e z = let none : size house b f ≡ 0 = size-is ∙ z in rw none
+
+  pub spans-less : {r s : ℕ} (e : ℕ) → (w ≡ 0 → ⊥) → r ≡ getD b a 0 → Spanned (r % 8) s → ltb s e ≡ growing b f e
+  unfolding growing root
+  spans-less e d er sp = rw (live-some (size house b f) (λ z. d (sym size-is ∙ z)), sp .is, er, at .is)
+
+-- ---- What growth takes
+
+module _ (b : List ℕ) (f e : ℕ) {t : Bool} (et : t ≡ growing b f e) where
+  pub growth-none : (fresh : ℕ → ℕ) → t ≡ false → 0 ≡ growth house fresh b f e .taken
+  unfolding growing growth plan
+  growth-none fresh z = rw (← et, z)
+
+  module _ (z : t ≡ true) {h : ℕ} (eh : h ≡ least 8 3 e) where
+    pub grown-taken : {plan₀ plan₁ : List ℕ} {r : Count} (fresh : ℕ → ℕ) → PlanLaid plan₀ 0 (growthTo house fresh b f h) plan₁ r → r .taken ≡ growth house fresh b f e .taken
+    unfolding growing growth
+    grown-taken fresh q = q .taken ∙ rw (← et, z, eh)
+
+    pub grown-height : e ≤ 32768 → (root house b f % 8 ≤ h) × (h ≤ 3)
+    unfolding growing span
+    grown-height l =
+        let more : span 8 (root house b f % 8) < e = ltb-true _ _ (true-right (live (size house b f)) (ltb (span 8 (root house b f % 8)) e) (sym et ∙ z)) in
+        rw eh (least-above 8 (lit< tt) 3 e (root house b f % 8) l more, least-within 8 (lit< tt) 3 e)
+
+-- the plan takes at least what growth takes
+growth-first : (fresh : ℕ → ℕ) (b : List ℕ) (f o : ℕ) (new : List ℕ) → 0 < length new
+    → growth house fresh b f (o + length new) .taken ≤ writePlan house fresh b f o new .taken
+unfolding writePlan afterwards plan
+growth-first fresh b f o [] l = absurd (omega arith)
+growth-first fresh b f o (x ∷ new) l =
+    let p : Plan = growth house fresh b f (o + suc (length new)) in
+    let grown : List ℕ = performed b (concat (planEpochs (p .steps))) in
+    taken-from house fresh grown f (singleBlock house grown f o (o + suc (length new))) o (x ∷ new) (p .taken)
+
+-- ---- A call that plans
+
+-- what it answers and leaves in the slice
+record Gives (p : Planned) (r : Answer) (slice : List ℕ) : Type 0 where
+  answer : r ≡ p .answer
+  plan : slice ≡ p .slice
+
+module _ (faults : Faults) (ss : List Store) (slice : List ℕ) where
+  -- refusal 8
+  abbrev shortFault : Faults
+  shortFault = (PlanLength, ltb (length slice) (2 * length ss)) ∷ []
+
+  gives-refusal : {x : Fault} → planned faults ss slice .answer ≡ Refused x → Gives (planned faults ss slice) (Refused x) slice
+  unfolding planned unlessRefused
+  gives-refusal e = record { answer = sym e; plan = rw e }
+
+  gives-plan : {n : ℕ} → planned faults ss slice .answer ≡ Done n → Gives (planned faults ss slice) (Done n) (laid slice 0 ss)
+  unfolding planned unlessRefused
+  gives-plan e = record { answer = sym e; plan = rw e }
+
+  module _ (v : ℕ) {r : Answer} (e : r ≡ answered faults v) where
+    -- a fault comes before the slice's length
+    turned : {x : Fault} → r ≡ Refused x → Gives (planned faults ss slice) r slice
+    unfolding planned
+    turned z = rw z (gives-refusal (first-refused faults shortFault v (length ss) e z ∙ z))
+
+    module _ {w n : ℕ} (z : r ≡ Done w) (en : n ≡ 0 + length ss) where
+      too-short : length slice / 2 < n → Gives (planned faults ss slice) (Refused PlanLength) slice
+      unfolding planned answered
+      too-short l = gives-refusal (first-done faults shortFault v (length ss) e z ∙ rw (lt-ltb (length slice) (2 * length ss) (omega arith)))
+
+      long-enough : n ≤ length slice / 2 → {slice′ : List ℕ} → slice′ ≡ laid slice 0 ss → Gives (planned faults ss slice) (Done n) slice′
+      unfolding planned answered
+      long-enough l es =
+          let count : n ≡ length ss = omega arith in
+          rw (es, count) (gives-plan (first-done faults shortFault v (length ss) e z ∙ rw (le-ltb (length slice) (2 * length ss) (omega arith))))
+
+-- ---- Accepted boards and their files
+
+-- check answers 0 on an accepted board
+checked : (b : List ℕ) → T (accepted house b) → checkAnswer house b ≡ Done 0
+unfolding accepted checkAnswer boardFaults wordCountFault answered
+checked b t =
+    let w : Bool = wordCountSound house b in
+    let l : Bool = trailerSound house b in
+    let s : Bool = treesSound house b in
+    rw (is-true w (and-left w l (and-left (w && l) s t)), is-true l (and-right w l (and-left (w && l) s t)), is-true s (and-right (w && l) s t))
+
+-- and only there
+accepts : (b : List ℕ) (v : ℕ) → checkAnswer house b ≡ Done v → T (accepted house b)
+unfolding accepted
+accepts b v e = let k = sound b v e in rw (k .words, k .trailer, k .trees) tt
+
+pub there : {b : List ℕ} {f v : ℕ} {r : Answer} → r ≡ checkAnswer house b → r ≡ Done v → f ≤ 31 → File b f
+there {b} {f} {v} e z l = record { board = accepts b v (sym e ∙ z); file = omega arith }
+
+-- none of refusals 1 to 4
+file-done : {b : List ℕ} {f : ℕ} → File b f → Done 0 ≡ answered (fileFaults house b f) 0
+file-done {b} {f} k = file-there b f refl (checked b (k .board)) (omega (arith, k .file))
+
+-- an answer is not a refusal
+not-refused : {r : Answer} {v : ℕ} {x : Fault} → r ≡ Done v → r ≡ Refused x → ⊥
+not-refused e z = let n : _≡_ {A = ℕ} 0 1 = cc in omega arith
+
+pub done-file : {b : List ℕ} {f v : ℕ} {r : Answer} → r ≡ answered (fileFaults house b f) 0 → r ≡ Done v → File b f
+done-file {b} {f} {v} {r} e z = by (checkAnswer house b) refl
+  where
+    by : (a : Answer) → checkAnswer house b ≡ a → File b f
+    by (Done u) c = elim (split f 31) [
+      | inl l ↦ there refl c l
+      | inr l ↦ absurd (not-refused z (e ∙ sym (file-none b f refl c l)))
+    ]
+    by (Refused x) c = absurd (not-refused z (e ∙ sym (file-refused b f refl c) ∙ c))
+
+pub size-most : {b : List ℕ} {f : ℕ} → File b f → size house b f ≤ 32768
+unfolding files greatest span
+size-most {b} {f} k = facts house house-fits b (k .board) .most f (k .file)
+
+-- ---- Write
+
+-- its plan, with the lowest free blocks
+abbrev lowestPlan : List ℕ → ℕ → ℕ → List ℕ → Plan
+lowestPlan b f o new = writePlan house (lowest house b) b f o new
+
+-- refusals 5 to 7, and all up to 7
+abbrev ownFaults : List ℕ → ℕ → ℕ → List ℕ → Faults
+ownFaults b f o new =
+    (Offset, ltb (size house b f) o) ∷ (End, ltb (greatest house) (o + length new)) ∷ (FreeBlocks, ltb (length (free house b)) (lowestPlan b f o new .taken)) ∷ []
+
+abbrev allFaults : List ℕ → ℕ → ℕ → List ℕ → Faults
+allFaults b f o new = writeFaults house b f o new (lowestPlan b f o new)
+
+-- a write that none of them turns away
+write-done : (b : List ℕ) (f o : ℕ) (new : List ℕ) → File b f → o ≤ size house b f → o + length new ≤ 32768 → lowestPlan b f o new .taken ≤ length (free house b)
+    → Done 0 ≡ answered (allFaults b f o new) 0
+unfolding writeFaults answered greatest span
+write-done b f o new k within end room = sym (first-done (fileFaults house b f) (ownFaults b f o new) 0 0 (file-done k) refl
+    ∙ rw (le-ltb (size house b f) o within, le-ltb 32768 (o + length new) end, le-ltb (length (free house b)) (lowestPlan b f o new .taken) room))
+
+module _ {b : List ℕ} {f o : ℕ} {new slice : List ℕ} where
+  -- the definition's answer and slice
+  write-gives : {r : Answer} {slice′ : List ℕ} → Gives (planned (allFaults b f o new) (pairs (lowestPlan b f o new)) slice) r slice′ → WriteResult b f o new slice r slice′
+  unfolding write
+  write-gives k = record { answer = k .answer; plan = k .plan }
+
+  -- a refusal up to 7
+  first-turned : {r : Answer} {x : Fault} → r ≡ answered (allFaults b f o new) 0 → r ≡ Refused x → WriteResult b f o new slice r slice
+  first-turned e z = write-gives (turned (allFaults b f o new) (pairs (lowestPlan b f o new)) slice 0 e z)
+
+  -- one of 1 to 4
+  pub write-turned : {r : Answer} {x : Fault} → r ≡ answered (fileFaults house b f) 0 → r ≡ Refused x → WriteResult b f o new slice r slice
+  unfolding writeFaults
+  write-turned e z = first-turned (sym (first-refused (fileFaults house b f) (ownFaults b f o new) 0 0 e z)) z
+
+  module _ (k : File b f) where
+    -- one of 5 to 7
+    own-turned : {x : Fault} → answered (ownFaults b f o new) 0 ≡ Refused x → WriteResult b f o new slice (Refused x) slice
+    unfolding writeFaults
+    own-turned z = first-turned (sym (first-done (fileFaults house b f) (ownFaults b f o new) 0 0 (file-done k) refl ∙ z)) refl
+
+    pub write-past-size : {n : ℕ} → n ≡ size house b f → n < o → WriteResult b f o new slice (Refused Offset) slice
+    unfolding answered
+    write-past-size en l = own-turned (rw (lt-ltb (size house b f) o (omega arith)))
+
+    module _ (within : o ≤ size house b f) where
+      pub write-past-end : 32768 < o + length new → WriteResult b f o new slice (Refused End) slice
+      unfolding answered greatest span
+      write-past-end l = own-turned (rw (le-ltb (size house b f) o within, lt-ltb 32768 (o + length new) l))
+
+      module _ (end : o + length new ≤ 32768) where
+        no-blocks : length (free house b) < lowestPlan b f o new .taken → WriteResult b f o new slice (Refused FreeBlocks) slice
+        unfolding answered greatest span
+        no-blocks l = own-turned (rw (le-ltb (size house b f) o within, le-ltb 32768 (o + length new) end, lt-ltb (length (free house b)) (lowestPlan b f o new .taken) l))
+
+        module _ (room : lowestPlan b f o new .taken ≤ length (free house b)) {n : ℕ} (en : n ≡ 0 + length (pairs (lowestPlan b f o new))) where
+          short-slice : length slice / 2 < n → WriteResult b f o new slice (Refused PlanLength) slice
+          short-slice l = write-gives (too-short (allFaults b f o new) (pairs (lowestPlan b f o new)) slice 0 (write-done b f o new k within end room) refl en l)
+
+          whole : n ≤ length slice / 2 → {slice′ : List ℕ} → slice′ ≡ laid slice 0 (pairs (lowestPlan b f o new)) → WriteResult b f o new slice (Done n) slice′
+          whole l es = write-gives (long-enough (allFaults b f o new) (pairs (lowestPlan b f o new)) slice 0 (write-done b f o new k within end room) refl en l es)
+
+-- nothing to write
+pub write-nothing : {b : List ℕ} {f o : ℕ} {new slice : List ℕ} → File b f → o ≤ size house b f → length new ≡ 0 → WriteResult b f o new slice (Done 0) slice
+unfolding writePlan plan pairs planEpochs fenced
+write-nothing {new = []} {slice = slice} k within e = whole k within (omega (arith, size-most k)) (omega arith) refl (omega arith) (sym (laid-none slice 0))
+write-nothing {new = x ∷ new} k within e = absurd (omega arith)
+
+-- a write of some bytes, planned with the table's blocks, which are the lowest free ones
+module _ {b : List ℕ} {f o : ℕ} {new table : List ℕ} {count : ℕ} (s : Stocked b f o new table count) where
+  abbrev tablePlan : Plan
+  tablePlan = writePlan house (taking table) b f o new
+
+  same-plan : tablePlan ≡ lowestPlan b f o new
+  same-plan = let same : taking table ≡ lowest house b = λ i x. s .asked .lists x i in ap (λ (fresh : ℕ → ℕ). writePlan house fresh b f o new) same
+
+  module _ {slice : List ℕ} where
+    lacks : count < tablePlan .taken → WriteResult b f o new slice (Refused FreeBlocks) slice
+    lacks l = no-blocks (s .asked .of) (s .asked .within) (s .asked .end) (rw (← same-plan) (omega (arith, s .all)))
+
+    pub growth-lacks : {n : ℕ} → n ≡ growth house (taking table) b f (o + length new) .taken → count < n → WriteResult b f o new slice (Refused FreeBlocks) slice
+    growth-lacks e l = lacks (omega (arith, growth-first (taking table) b f o new (s .asked .some)))
+
+  module _ {plan₀ plan₁ : List ℕ} {r : Count} (q : PlanLaid plan₀ 0 tablePlan plan₁ r) where
+    enough : r .taken ≤ count → lowestPlan b f o new .taken ≤ length (free house b)
+    enough room = rw (← same-plan) (omega (arith, q .taken, s .all))
+
+    counted : r .pairs ≡ 0 + length (pairs (lowestPlan b f o new))
+    counted = rw same-plan at (q .count)
+
+    module _ {slice : List ℕ} where
+      pub plan-lacks : count < r .taken → WriteResult b f o new slice (Refused FreeBlocks) slice
+      plan-lacks l = lacks (omega (arith, q .taken))
+
+      pub plan-short : r .taken ≤ count → length slice / 2 < r .pairs → WriteResult b f o new slice (Refused PlanLength) slice
+      plan-short room l = short-slice (s .asked .of) (s .asked .within) (s .asked .end) (enough room) counted l
+
+      pub plan-laid : {slice′ : List ℕ} {r′ : Count} → r .taken ≤ count → r .pairs ≤ length slice / 2 → PlanLaid slice 0 tablePlan slice′ r′
+          → WriteResult b f o new slice (Done (r .pairs)) slice′
+      plan-laid room l q′ = whole (s .asked .of) (s .asked .within) (s .asked .end) (enough room) counted l (rw same-plan at (q′ .is))
+
+-- ---- Length change
+
+abbrev lengthPairs : List ℕ → ℕ → ℕ → List Store
+lengthPairs b f n = pairs (lengthPlan house b f n)
+
+-- refusals 1 to 4, and 6
+abbrev lengthFaults : List ℕ → ℕ → ℕ → Faults
+lengthFaults b f n = fileFaults house b f ++ ((End, ltb (greatest house) n) ∷ [])
+
+-- a length change that none of them turns away
+length-done : (b : List ℕ) (f n : ℕ) {r : Answer} {v : ℕ} → r ≡ answered (fileFaults house b f) 0 → r ≡ Done v → n ≤ 32768 → Done 0 ≡ answered (lengthFaults b f n) 0
+unfolding answered greatest span
+length-done b f n e z end = sym (first-done (fileFaults house b f) ((End, ltb 32768 n) ∷ []) 0 0 e z ∙ rw (le-ltb 32768 n end))
+
+module _ {b : List ℕ} {f n : ℕ} {slice : List ℕ} where
+  -- the definition's answer and slice
+  length-gives : {r : Answer} {slice′ : List ℕ} → Gives (planned (lengthFaults b f n) (lengthPairs b f n) slice) r slice′ → SetLengthResult b f n slice r slice′
+  unfolding setLength
+  length-gives k = record { answer = k .answer; plan = k .plan }
+
+  module _ {r : Answer} (e : r ≡ answered (fileFaults house b f) 0) where
+    pub length-turned : {x : Fault} → r ≡ Refused x → SetLengthResult b f n slice r slice
+    length-turned z = length-gives (turned (lengthFaults b f n) (lengthPairs b f n) slice 0
+        (sym (first-refused (fileFaults house b f) ((End, ltb (greatest house) n) ∷ []) 0 0 e z)) z)
+
+    module _ {v : ℕ} (z : r ≡ Done v) where
+      pub length-past-end : 32768 < n → SetLengthResult b f n slice (Refused End) slice
+      unfolding answered greatest span
+      length-past-end l = length-gives (turned (lengthFaults b f n) (lengthPairs b f n) slice 0
+          (sym (first-done (fileFaults house b f) ((End, ltb 32768 n) ∷ []) 0 0 e z ∙ rw (lt-ltb 32768 n l))) refl)
+
+      module _ (end : n ≤ 32768) {plan₀ plan₁ : List ℕ} {c : ℕ} (q : Laid plan₀ 0 (lengthPairs b f n) plan₁ c) where
+        pub length-short : length slice / 2 < c → SetLengthResult b f n slice (Refused PlanLength) slice
+        length-short l = length-gives (too-short (lengthFaults b f n) (lengthPairs b f n) slice 0 (length-done b f n e z end) refl (q .next) l)
+
+        pub length-laid : {slice′ : List ℕ} {c′ : ℕ} → c ≤ length slice / 2 → Laid slice 0 (lengthPairs b f n) slice′ c′ → SetLengthResult b f n slice (Done c) slice′
+        length-laid l q′ = length-gives (long-enough (lengthFaults b f n) (lengthPairs b f n) slice 0 (length-done b f n e z end) refl (q .next) l (q′ .is))

@@ -1,0 +1,80 @@
+use Prim.Native.Nat.{_≤_}
+use native.Mathlib.Omega.{arith}
+use lib.ListN.{length}
+use borrow.Author.Needs.{needs}
+use Rattle.model.proofs.Spans.{least-within}
+use Rattle.building.proofs.Taken as Taken
+use Rattle.ways.proofs.Ways as Ways
+use Rattle.ways.proofs.fill_empty.Statement.{statement}
+use Rattle.ways.proofs.fill_empty.Tie as tie
+
+low : (c : tie.After-least-height) → c .least-height .result ≤ 3
+low c =
+    let a = c .before .before .before .before .before .before .before .args in
+    omega (arith, c .least-height .ensures, least-within 8 (omega arith) 3 (length (a .new .now)))
+
+build-requires : tie.Need-build-requires
+build-requires c κs =
+    let h = c .before in
+    Ways.may-build (h .least-height .result) 0 (h .before .before .before .before .before .before .before .pre) (low h)
+
+some : (c : tie.After-build) → let a = c .before .before .before .before .before .before .before .before .before .args in Ways.Some (a .base) (a .c) (c .build .result)
+some c =
+    let h = c .before .before in
+    Ways.some-built (h .least-height .result) 0 0 0 (h .before .before .before .before .before .before .before .pre) (low h) (c .build .ensures)
+
+mul-q : tie.Need-mul-q
+mul-q c = omega (arith, some (c .before .before))
+
+add-q : tie.Need-add-q
+add-q c = omega (arith, some (c .before .before))
+
+sub-word : tie.Need-sub-word
+sub-word c = omega (arith, some (c .before .before .before))
+
+mul-pair : tie.Need-mul-pair
+mul-pair c =
+    let p = c .before .before .before .before .before .before .before .before .before .before .before .before .before .pre in
+    omega (arith, Taken.block-small _ (p .blocks) (c .word .ensures))
+
+add-pair : tie.Need-add-pair
+add-pair c =
+    let h = c .before .before .before .before .before .before in
+    omega (arith, Taken.block-small _ (h .before .before .before .before .before .before .before .pre .blocks) (c .word .ensures), low h)
+
+add-commit-2 : tie.Need-add-commit-2
+add-commit-2 c = omega (arith, some (c .before .before .before .before .before .before .before .before))
+
+commit-requires : tie.Need-commit-requires
+commit-requires c κs = omega (arith, some (c .before .before .before .before .before .before .before .before))
+
+returns : tie.Need-returns
+returns c =
+    let e = c .before .before in
+    let p = e .before .before .before .before in
+    let b = p .before .before .before .before .before in
+    let h = b .before .before in
+    Ways.empty-laid (h .before .before .before .before .before .before .before .pre) (h .before .root-address .ensures) (h .least-height .ensures) (b .build .ensures)
+    (p .before .word .ensures) (p .pair .ensures) (e .commit .ensures)
+
+pub fill-empty-spec : {M : Type 1} → statement M
+fill-empty-spec =
+    tie.close
+    (tie.spec
+    (λ c κs. search needs)
+    (λ c κs. search needs)
+    build-requires
+    mul-q
+    add-q
+    sub-word
+    (λ c κs. search needs)
+    mul-pair
+    add-pair
+    (λ c κs. search needs)
+    (λ c. search needs)
+    (λ c. search needs)
+    add-commit-2
+    (λ c. search needs)
+    commit-requires
+    (λ c. search needs)
+    returns)

@@ -1,0 +1,252 @@
+/*
+ * Tests of the calls on words as C makes them: the order of refusals where several apply, that a refusal changes nothing, plans at the
+ * wall of their memory, and the stack. What plans hold is tested by words.py.
+ */
+#include "testing.h"
+
+#include "montebeech.h"
+#include "random.h"
+
+#include <inttypes.h>
+
+enum { MOST_WORDS = 8192, MOST_PLAN = 12000, GREATEST = MONTEBEECH_GREATEST_SIZE };
+
+#define LAST UINT64_MAX
+#define BIT_63 ((uint64_t)1 << 63)
+
+static uint64_t board[MOST_WORDS], plan[MOST_PLAN];
+static size_t board_len;
+static uint8_t bytes[GREATEST + 1];
+
+static void answers(const char *call, int64_t found, int64_t wanted)
+{
+    if (fails(found == wanted))
+        printf("%s: expected %" PRId64 ", found %" PRId64 "\n", call, wanted, found);
+}
+
+/* Performs a plan whole. */
+static void performed(int64_t pairs)
+{
+    if (pairs < 0 || montebeech_words_perform(board, board_len, plan, MOST_PLAN, (uint64_t)pairs) != pairs) {
+        printf("%s: a plan could not be performed, %" PRId64 "\n", subject, pairs);
+        exit(1);
+    }
+}
+
+static void format(size_t blocks)
+{
+    board_len = 8 * blocks;
+    for (size_t i = 0; i < board_len; i++)
+        board[i] = random_word();
+    performed(montebeech_words_format(board, board_len, plan, MOST_PLAN));
+}
+
+static void write_bytes(uint64_t file, uint64_t offset, size_t len)
+{
+    performed(montebeech_words_write(board, board_len, file, offset, bytes, len, plan, MOST_PLAN));
+}
+
+/* ---- Refusals */
+
+static uint64_t board_kept[MOST_WORDS], plan_kept[MOST_PLAN];
+
+static void keep(void)
+{
+    memcpy(board_kept, board, sizeof board);
+    memcpy(plan_kept, plan, sizeof plan);
+}
+
+static void nothing_changed(const char *call)
+{
+    if (fails(memcmp(board_kept, board, sizeof board) == 0 && memcmp(plan_kept, plan, sizeof plan) == 0))
+        printf("%s: expected board and plan as they were, found them changed\n", call);
+}
+
+static void write_refuses(int64_t wanted, uint64_t file, uint64_t offset, size_t len, size_t plan_len)
+{
+    keep();
+    answers("write", montebeech_words_write(board, board_len, file, offset, bytes, len, plan, plan_len), wanted);
+    nothing_changed("write");
+}
+
+static void length_refuses(int64_t wanted, uint64_t file, uint64_t length, size_t plan_len)
+{
+    keep();
+    answers("length change", montebeech_words_set_length(board, board_len, file, length, plan, plan_len), wanted);
+    nothing_changed("length change");
+}
+
+/* A board on which every later refusal applies, mended step by step: each time the first fault decides. */
+static void order_of_refusals(void)
+{
+    about("order of refusals");
+    format(16);
+    write_bytes(0, 0, 256); /* all five free blocks */
+    uint64_t trailer = board[board_len - 7], pointer = board[8];
+    board[board_len - 7] = 0;
+    board[8] = 0;
+    board_len -= 1;
+    write_refuses(-1, 32, LAST, sizeof bytes, 0);
+    length_refuses(-1, 32, LAST, 0);
+    answers("format", montebeech_words_format(board, board_len, plan, 0), -1);
+    answers("perform", montebeech_words_perform(board, board_len, plan, 0, LAST), -1);
+    board_len += 1;
+    write_refuses(-2, 32, LAST, sizeof bytes, 0);
+    length_refuses(-2, 32, LAST, 0);
+    board[board_len - 7] = trailer;
+    write_refuses(-3, 32, LAST, sizeof bytes, 0);
+    length_refuses(-3, 32, LAST, 0);
+    board[8] = pointer;
+    write_refuses(-4, 32, LAST, sizeof bytes, 0);
+    length_refuses(-4, 32, LAST, 0);
+    write_refuses(-5, 0, LAST, sizeof bytes, 0);
+    write_refuses(-5, 0, 257, 0, 0);
+    length_refuses(-6, 0, LAST, 0);
+    write_refuses(-6, 0, 256, sizeof bytes, 0);
+    write_refuses(-7, 0, 200, 100, 0);
+    write_refuses(-8, 0, 0, 1, 1);
+    length_refuses(-8, 0, 100, 1);
+    answers("a write of no bytes", montebeech_words_write(board, board_len, 0, 256, NULL, 0, NULL, 0), 0);
+    answers("a length that stays", montebeech_words_set_length(board, board_len, 0, 256, NULL, 0), 0);
+}
+
+static void no_memory(void)
+{
+    about("no memory");
+    answers("check", montebeech_words_check(NULL, 0), -1);
+    answers("free count", montebeech_words_free_count(NULL, 0), -1);
+    answers("size", montebeech_words_size(NULL, 0, 0), -1);
+    answers("read", montebeech_words_read(NULL, 0, 0, 0, NULL, 0), -1);
+    answers("write", montebeech_words_write(NULL, 0, 0, 0, NULL, 0, NULL, 0), -1);
+    answers("length change", montebeech_words_set_length(NULL, 0, 0, 0, NULL, 0), -1);
+    answers("format", montebeech_words_format(NULL, 0, NULL, 0), -1);
+    answers("perform", montebeech_words_perform(NULL, 0, NULL, 0, 0), -1);
+}
+
+/* A bad address in each place of a plan, the last among them; pair counts near and far beyond the slice. */
+static void perform_refuses(void)
+{
+    const uint64_t counts[] = {12, BIT_63, BIT_63 + 1, LAST}, addresses[] = {128, LAST - 1, BIT_63};
+    about("perform");
+    format(16);
+    int64_t pairs = montebeech_words_write(board, board_len, 0, 0, bytes, 2, plan, 22);
+    answers("write", pairs, 11);
+    for (unsigned i = 0; i < 4; i++) {
+        keep();
+        answers("perform", montebeech_words_perform(board, board_len, plan, 22, counts[i]), -9);
+        answers("perform of an odd slice", montebeech_words_perform(board, board_len, plan, 23, counts[i]), -9);
+        nothing_changed("perform");
+    }
+    for (unsigned place = 0; place < 11; place++) {
+        for (unsigned i = 0; i < 3; i++) {
+            uint64_t kept = plan[2 * place];
+            plan[2 * place] = addresses[i];
+            keep();
+            answers("perform", montebeech_words_perform(board, board_len, plan, 22, 11), -10);
+            nothing_changed("perform");
+            answers("perform before it", montebeech_words_perform(board, board_len, plan, 22, place), place);
+            memcpy(board, board_kept, sizeof board);
+            plan[2 * place] = kept;
+        }
+    }
+    answers("perform", montebeech_words_perform(board, board_len, plan, 22, 11), 11);
+    answers("size", montebeech_words_size(board, board_len, 0), 2);
+}
+
+/* ---- Memory: each slice ends at a wall, and the plan slice is as long as it must be. */
+
+static void at_the_wall(void)
+{
+    uint8_t *board_end = memory_before_wall(sizeof board), *plan_end = memory_before_wall(sizeof plan), *bytes_end = memory_before_wall(sizeof bytes);
+    const size_t lengths[] = {1, 8, 9, 64, 65, 500, 4096, 20000};
+    for (unsigned i = 0; i < 8; i++) {
+        about("%zu bytes at the wall", lengths[i]);
+        format(1024);
+        uint8_t *new = bytes_end - lengths[i];
+        memcpy(new, bytes, lengths[i]);
+        uint64_t *lent = (uint64_t *)(void *)(board_end - 8 * board_len);
+        memcpy(lent, board, 8 * board_len);
+        int64_t pairs = montebeech_words_write(lent, board_len, 31, 0, new, lengths[i], plan, MOST_PLAN);
+        uint64_t *slice = (uint64_t *)(void *)(plan_end - 16 * (size_t)pairs);
+        answers("write", montebeech_words_write(lent, board_len, 31, 0, new, lengths[i], slice, 2 * (size_t)pairs), pairs);
+        answers("write in one word less", montebeech_words_write(lent, board_len, 31, 0, new, lengths[i], slice + 1, 2 * (size_t)pairs - 1), -8);
+        answers("perform", montebeech_words_perform(lent, board_len, slice, 2 * (size_t)pairs, (uint64_t)pairs), pairs);
+        uint8_t *out = bytes_end - lengths[i];
+        memset(out, 0, lengths[i]);
+        answers("read", montebeech_words_read(lent, board_len, 31, 0, out, lengths[i]), (int64_t)lengths[i]);
+        if (fails(memcmp(out, bytes, lengths[i]) == 0))
+            printf("expected the bytes that were written, found others\n");
+    }
+}
+
+/* ---- Stack */
+
+static unsigned which_call;
+
+static void call_for_stack(void)
+{
+    static uint8_t out[GREATEST];
+    switch (which_call) {
+    case 0:
+        montebeech_words_check(board, board_len);
+        break;
+    case 1:
+        montebeech_words_free_count(board, board_len);
+        break;
+    case 2:
+        montebeech_words_size(board, board_len, 0);
+        break;
+    case 3:
+        montebeech_words_read(board, board_len, 0, 3, out, sizeof out);
+        break;
+    case 4: /* growth by three levels, then a tail */
+        montebeech_words_write(board, board_len, 1, 10, bytes, 16000, plan, MOST_PLAN);
+        break;
+    case 5: /* shadow inside the file */
+        montebeech_words_write(board, board_len, 0, 100, bytes, 9000, plan, MOST_PLAN);
+        break;
+    case 6: /* shadow with length */
+        montebeech_words_write(board, board_len, 0, 19000, bytes, 9000, plan, MOST_PLAN);
+        break;
+    case 7: /* an empty file */
+        montebeech_words_write(board, board_len, 2, 0, bytes, 20000, plan, MOST_PLAN);
+        break;
+    case 8:
+        montebeech_words_set_length(board, board_len, 0, GREATEST, plan, MOST_PLAN);
+        break;
+    case 9:
+        montebeech_words_format(board, board_len, plan, MOST_PLAN);
+        break;
+    default:
+        montebeech_words_perform(board, board_len, plan, MOST_PLAN, 83);
+    }
+}
+
+static void stack_suffices(void)
+{
+    size_t most = 0;
+    about("stack");
+    format(1024);
+    write_bytes(0, 0, 20000);
+    write_bytes(1, 0, 10);
+    for (which_call = 0; which_call < 11; which_call++) {
+        size_t used = stack_used(call_for_stack);
+        most = used > most ? used : most;
+        if (fails(used <= MONTEBEECH_WORDS_STACK_BYTES))
+            printf("call %u: expected at most %d bytes, found %zu\n", which_call, MONTEBEECH_WORDS_STACK_BYTES, used);
+    }
+    printf("a call on words uses at most %zu bytes of stack\n", most);
+}
+
+int main(void)
+{
+    for (size_t i = 0; i < sizeof bytes; i++)
+        bytes[i] = (uint8_t)random_word();
+    stack_suffices(); /* first, since a function of the C library takes more stack where its first call binds it */
+    no_memory();
+    order_of_refusals();
+    perform_refuses();
+    at_the_wall();
+    printf("changing: %lu tests, %lu failed\n", tests, failed);
+    return failed > 0;
+}
