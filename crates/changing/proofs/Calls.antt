@@ -3,7 +3,7 @@ use mathlib.Core.Path.{_≡_, refl, sym, ap, _∙_}
 use mathlib.Core.Logic.{inl, inr}
 use mathlib.Core.Bool.{Bool, true, false, _&&_}
 use mathlib.Core.List.{List, [], _∷_, _++_}
-use Prim.Native.Nat.{ℕ, zero, suc, _+_, _*_, _/_, _%_, _≤_, _<_}
+use Prim.Native.Nat.{ℕ, zero, suc, _+_, _/_, _%_, _≤_, _<_}
 use native.Mathlib.Omega.{arith}
 use lib.ListN.{length, getD}
 use lib.Dec.{T, ltb, lit<}
@@ -19,8 +19,8 @@ use Rattle.model.specs.Board.{greatest, sizeAddress, root, size, wordCountSound
 use Rattle.model.specs.Store.{Store, performed, fenced, laid}
 use Rattle.model.specs.Plan.{Plan, plan, pairs, planEpochs, afterwards}
 use Rattle.model.specs.Change.{growthTo, growth, singleBlock, writePlan, lengthPlan}
-use Rattle.model.specs.Answers.{Faults, answered, unlessRefused}
-use Rattle.model.specs.Calls.{wordCountFault, boardFaults, fileFaults, checkAnswer, Planned, planned, lowest, writeFaults, write, setLength}
+use Rattle.model.specs.Answers.{Faults, answered}
+use Rattle.model.specs.Calls.{wordCountFault, boardFaults, fileFaults, checkAnswer, planned, lowest, writeFaults, write, setLength}
 use Rattle.model.proofs.Cases.{split, true-right, is-true, and-left, and-right}
 use Rattle.model.proofs.Spans.{least-within, least-above}
 use Rattle.model.proofs.Accepting.{facts}
@@ -30,11 +30,12 @@ use Rattle.model.proofs.Ways.{taken-from}
 use Rattle.boards.proofs.Surveying.{sound}
 use Rattle.reading.proofs.Answering.{file-refused, file-none, file-there}
 use Rattle.trees.specs.Trees.{Spanned}
-use Rattle.plans.specs.Laying.{Laid}
+use Rattle.plans.specs.Laying.{Laid, PlanResult}
 use Rattle.building.specs.Taking.{taking}
 use Rattle.ways.specs.Planning.{AddressOf, PlanLaid}
 use Rattle.ways.specs.declared.Count.{Count}
-use Rattle.changing.specs.Results.{growing, File, Stocked, WriteResult, SetLengthResult}
+use Rattle.changing.specs.Asked.{growing, File, Stocked}
+use Rattle.plans.proofs.Refusing.{turned, too-short, long-enough}
 use Rattle.plans.proofs.Laying.{laid-none}
 
 -- ---- Whether a tree grows
@@ -84,43 +85,6 @@ growth-first fresh b f o (x ∷ new) l =
     let p : Plan = growth house fresh b f (o + suc (length new)) in
     let grown : List ℕ = performed b (concat (planEpochs (p .steps))) in
     taken-from house fresh grown f (singleBlock house grown f o (o + suc (length new))) o (x ∷ new) (p .taken)
-
--- ---- A call that plans
-
--- what it answers and leaves in the slice
-record Gives (p : Planned) (r : Answer) (slice : List ℕ) : Type 0 where
-  answer : r ≡ p .answer
-  plan : slice ≡ p .slice
-
-module _ (faults : Faults) (ss : List Store) (slice : List ℕ) where
-  -- refusal 8
-  abbrev shortFault : Faults
-  shortFault = (PlanLength, ltb (length slice) (2 * length ss)) ∷ []
-
-  gives-refusal : {x : Fault} → planned faults ss slice .answer ≡ Refused x → Gives (planned faults ss slice) (Refused x) slice
-  unfolding planned unlessRefused
-  gives-refusal e = record { answer = sym e; plan = rw e }
-
-  gives-plan : {n : ℕ} → planned faults ss slice .answer ≡ Done n → Gives (planned faults ss slice) (Done n) (laid slice 0 ss)
-  unfolding planned unlessRefused
-  gives-plan e = record { answer = sym e; plan = rw e }
-
-  module _ (v : ℕ) {r : Answer} (e : r ≡ answered faults v) where
-    -- a fault comes before the slice's length
-    turned : {x : Fault} → r ≡ Refused x → Gives (planned faults ss slice) r slice
-    unfolding planned
-    turned z = rw z (gives-refusal (first-refused faults shortFault v (length ss) e z ∙ z))
-
-    module _ {w n : ℕ} (z : r ≡ Done w) (en : n ≡ 0 + length ss) where
-      too-short : length slice / 2 < n → Gives (planned faults ss slice) (Refused PlanLength) slice
-      unfolding planned answered
-      too-short l = gives-refusal (first-done faults shortFault v (length ss) e z ∙ rw (lt-ltb (length slice) (2 * length ss) (omega arith)))
-
-      long-enough : n ≤ length slice / 2 → {slice′ : List ℕ} → slice′ ≡ laid slice 0 ss → Gives (planned faults ss slice) (Done n) slice′
-      unfolding planned answered
-      long-enough l es =
-          let count : n ≡ length ss = omega arith in
-          rw (es, count) (gives-plan (first-done faults shortFault v (length ss) e z ∙ rw (le-ltb (length slice) (2 * length ss) (omega arith))))
 
 -- ---- Accepted boards and their files
 
@@ -184,53 +148,53 @@ unfolding writeFaults answered greatest span
 write-done b f o new k within end room = sym (first-done (fileFaults house b f) (ownFaults b f o new) 0 0 (file-done k) refl
     ∙ rw (le-ltb (size house b f) o within, le-ltb 32768 (o + length new) end, le-ltb (length (free house b)) (lowestPlan b f o new .taken) room))
 
-module _ {b : List ℕ} {f o : ℕ} {new slice : List ℕ} where
+module _ (b : List ℕ) (f o : ℕ) (new : List ℕ) {slice : List ℕ} where
   -- the definition's answer and slice
-  write-gives : {r : Answer} {slice′ : List ℕ} → Gives (planned (allFaults b f o new) (pairs (lowestPlan b f o new)) slice) r slice′ → WriteResult b f o new slice r slice′
+  write-gives : {r : Answer} {slice′ : List ℕ} → PlanResult (planned (allFaults b f o new) (pairs (lowestPlan b f o new)) slice) r slice′ → PlanResult (write house b f o new slice) r slice′
   unfolding write
   write-gives k = record { answer = k .answer; plan = k .plan }
 
   -- a refusal up to 7
-  first-turned : {r : Answer} {x : Fault} → r ≡ answered (allFaults b f o new) 0 → r ≡ Refused x → WriteResult b f o new slice r slice
+  first-turned : {r : Answer} {x : Fault} → r ≡ answered (allFaults b f o new) 0 → r ≡ Refused x → PlanResult (write house b f o new slice) r slice
   first-turned e z = write-gives (turned (allFaults b f o new) (pairs (lowestPlan b f o new)) slice 0 e z)
 
   -- one of 1 to 4
-  pub write-turned : {r : Answer} {x : Fault} → r ≡ answered (fileFaults house b f) 0 → r ≡ Refused x → WriteResult b f o new slice r slice
+  pub write-turned : {r : Answer} {x : Fault} → r ≡ answered (fileFaults house b f) 0 → r ≡ Refused x → PlanResult (write house b f o new slice) r slice
   unfolding writeFaults
   write-turned e z = first-turned (sym (first-refused (fileFaults house b f) (ownFaults b f o new) 0 0 e z)) z
 
   module _ (k : File b f) where
     -- one of 5 to 7
-    own-turned : {x : Fault} → answered (ownFaults b f o new) 0 ≡ Refused x → WriteResult b f o new slice (Refused x) slice
+    own-turned : {x : Fault} → answered (ownFaults b f o new) 0 ≡ Refused x → PlanResult (write house b f o new slice) (Refused x) slice
     unfolding writeFaults
     own-turned z = first-turned (sym (first-done (fileFaults house b f) (ownFaults b f o new) 0 0 (file-done k) refl ∙ z)) refl
 
-    pub write-past-size : {n : ℕ} → n ≡ size house b f → n < o → WriteResult b f o new slice (Refused Offset) slice
+    pub write-past-size : {n : ℕ} → n ≡ size house b f → n < o → PlanResult (write house b f o new slice) (Refused Offset) slice
     unfolding answered
     write-past-size en l = own-turned (rw (lt-ltb (size house b f) o (omega arith)))
 
     module _ (within : o ≤ size house b f) where
-      pub write-past-end : 32768 < o + length new → WriteResult b f o new slice (Refused End) slice
+      pub write-past-end : 32768 < o + length new → PlanResult (write house b f o new slice) (Refused End) slice
       unfolding answered greatest span
       write-past-end l = own-turned (rw (le-ltb (size house b f) o within, lt-ltb 32768 (o + length new) l))
 
       module _ (end : o + length new ≤ 32768) where
-        no-blocks : length (free house b) < lowestPlan b f o new .taken → WriteResult b f o new slice (Refused FreeBlocks) slice
+        no-blocks : length (free house b) < lowestPlan b f o new .taken → PlanResult (write house b f o new slice) (Refused FreeBlocks) slice
         unfolding answered greatest span
         no-blocks l = own-turned (rw (le-ltb (size house b f) o within, le-ltb 32768 (o + length new) end, lt-ltb (length (free house b)) (lowestPlan b f o new .taken) l))
 
         module _ (room : lowestPlan b f o new .taken ≤ length (free house b)) {n : ℕ} (en : n ≡ 0 + length (pairs (lowestPlan b f o new))) where
-          short-slice : length slice / 2 < n → WriteResult b f o new slice (Refused PlanLength) slice
+          short-slice : length slice / 2 < n → PlanResult (write house b f o new slice) (Refused PlanLength) slice
           short-slice l = write-gives (too-short (allFaults b f o new) (pairs (lowestPlan b f o new)) slice 0 (write-done b f o new k within end room) refl en l)
 
-          whole : n ≤ length slice / 2 → {slice′ : List ℕ} → slice′ ≡ laid slice 0 (pairs (lowestPlan b f o new)) → WriteResult b f o new slice (Done n) slice′
+          whole : n ≤ length slice / 2 → {slice′ : List ℕ} → slice′ ≡ laid slice 0 (pairs (lowestPlan b f o new)) → PlanResult (write house b f o new slice) (Done n) slice′
           whole l es = write-gives (long-enough (allFaults b f o new) (pairs (lowestPlan b f o new)) slice 0 (write-done b f o new k within end room) refl en l es)
 
 -- nothing to write
-pub write-nothing : {b : List ℕ} {f o : ℕ} {new slice : List ℕ} → File b f → o ≤ size house b f → length new ≡ 0 → WriteResult b f o new slice (Done 0) slice
+pub write-nothing : (b : List ℕ) (f o : ℕ) (new : List ℕ) {slice : List ℕ} → File b f → o ≤ size house b f → length new ≡ 0 → PlanResult (write house b f o new slice) (Done 0) slice
 unfolding writePlan plan pairs planEpochs fenced
-write-nothing {new = []} {slice = slice} k within e = whole k within (omega (arith, size-most k)) (omega arith) refl (omega arith) (sym (laid-none slice 0))
-write-nothing {new = x ∷ new} k within e = absurd (omega arith)
+write-nothing b f o [] {slice} k within e = whole b f o [] k within (omega (arith, size-most k)) (omega arith) refl (omega arith) (sym (laid-none slice 0))
+write-nothing b f o (x ∷ new) k within e = absurd (omega arith)
 
 -- a write of some bytes, planned with the table's blocks, which are the lowest free ones
 module _ {b : List ℕ} {f o : ℕ} {new table : List ℕ} {count : ℕ} (s : Stocked b f o new table count) where
@@ -241,10 +205,10 @@ module _ {b : List ℕ} {f o : ℕ} {new table : List ℕ} {count : ℕ} (s : St
   same-plan = let same : taking table ≡ lowest house b = λ i x. s .asked .lists x i in ap (λ (fresh : ℕ → ℕ). writePlan house fresh b f o new) same
 
   module _ {slice : List ℕ} where
-    lacks : count < tablePlan .taken → WriteResult b f o new slice (Refused FreeBlocks) slice
-    lacks l = no-blocks (s .asked .of) (s .asked .within) (s .asked .end) (rw (← same-plan) (omega (arith, s .all)))
+    lacks : count < tablePlan .taken → PlanResult (write house b f o new slice) (Refused FreeBlocks) slice
+    lacks l = no-blocks b f o new (s .asked .of) (s .asked .within) (s .asked .end) (rw (← same-plan) (omega (arith, s .all)))
 
-    pub growth-lacks : {n : ℕ} → n ≡ growth house (taking table) b f (o + length new) .taken → count < n → WriteResult b f o new slice (Refused FreeBlocks) slice
+    pub growth-lacks : {n : ℕ} → n ≡ growth house (taking table) b f (o + length new) .taken → count < n → PlanResult (write house b f o new slice) (Refused FreeBlocks) slice
     growth-lacks e l = lacks (omega (arith, growth-first (taking table) b f o new (s .asked .some)))
 
   module _ {plan₀ plan₁ : List ℕ} {r : Count} (q : PlanLaid plan₀ 0 tablePlan plan₁ r) where
@@ -255,15 +219,15 @@ module _ {b : List ℕ} {f o : ℕ} {new table : List ℕ} {count : ℕ} (s : St
     counted = rw same-plan at (q .count)
 
     module _ {slice : List ℕ} where
-      pub plan-lacks : count < r .taken → WriteResult b f o new slice (Refused FreeBlocks) slice
+      pub plan-lacks : count < r .taken → PlanResult (write house b f o new slice) (Refused FreeBlocks) slice
       plan-lacks l = lacks (omega (arith, q .taken))
 
-      pub plan-short : r .taken ≤ count → length slice / 2 < r .pairs → WriteResult b f o new slice (Refused PlanLength) slice
-      plan-short room l = short-slice (s .asked .of) (s .asked .within) (s .asked .end) (enough room) counted l
+      pub plan-short : r .taken ≤ count → length slice / 2 < r .pairs → PlanResult (write house b f o new slice) (Refused PlanLength) slice
+      plan-short room l = short-slice b f o new (s .asked .of) (s .asked .within) (s .asked .end) (enough room) counted l
 
       pub plan-laid : {slice′ : List ℕ} {r′ : Count} → r .taken ≤ count → r .pairs ≤ length slice / 2 → PlanLaid slice 0 tablePlan slice′ r′
-          → WriteResult b f o new slice (Done (r .pairs)) slice′
-      plan-laid room l q′ = whole (s .asked .of) (s .asked .within) (s .asked .end) (enough room) counted l (rw same-plan at (q′ .is))
+          → PlanResult (write house b f o new slice) (Done (r .pairs)) slice′
+      plan-laid room l q′ = whole b f o new (s .asked .of) (s .asked .within) (s .asked .end) (enough room) counted l (rw same-plan at (q′ .is))
 
 -- ---- Length change
 
@@ -279,26 +243,26 @@ length-done : (b : List ℕ) (f n : ℕ) {r : Answer} {v : ℕ} → r ≡ answer
 unfolding answered greatest span
 length-done b f n e z end = sym (first-done (fileFaults house b f) ((End, ltb 32768 n) ∷ []) 0 0 e z ∙ rw (le-ltb 32768 n end))
 
-module _ {b : List ℕ} {f n : ℕ} {slice : List ℕ} where
+module _ (b : List ℕ) (f n : ℕ) {slice : List ℕ} where
   -- the definition's answer and slice
-  length-gives : {r : Answer} {slice′ : List ℕ} → Gives (planned (lengthFaults b f n) (lengthPairs b f n) slice) r slice′ → SetLengthResult b f n slice r slice′
+  length-gives : {r : Answer} {slice′ : List ℕ} → PlanResult (planned (lengthFaults b f n) (lengthPairs b f n) slice) r slice′ → PlanResult (setLength house b f n slice) r slice′
   unfolding setLength
   length-gives k = record { answer = k .answer; plan = k .plan }
 
   module _ {r : Answer} (e : r ≡ answered (fileFaults house b f) 0) where
-    pub length-turned : {x : Fault} → r ≡ Refused x → SetLengthResult b f n slice r slice
+    pub length-turned : {x : Fault} → r ≡ Refused x → PlanResult (setLength house b f n slice) r slice
     length-turned z = length-gives (turned (lengthFaults b f n) (lengthPairs b f n) slice 0
         (sym (first-refused (fileFaults house b f) ((End, ltb (greatest house) n) ∷ []) 0 0 e z)) z)
 
     module _ {v : ℕ} (z : r ≡ Done v) where
-      pub length-past-end : 32768 < n → SetLengthResult b f n slice (Refused End) slice
+      pub length-past-end : 32768 < n → PlanResult (setLength house b f n slice) (Refused End) slice
       unfolding answered greatest span
       length-past-end l = length-gives (turned (lengthFaults b f n) (lengthPairs b f n) slice 0
           (sym (first-done (fileFaults house b f) ((End, ltb 32768 n) ∷ []) 0 0 e z ∙ rw (lt-ltb 32768 n l))) refl)
 
       module _ (end : n ≤ 32768) {plan₀ plan₁ : List ℕ} {c : ℕ} (q : Laid plan₀ 0 (lengthPairs b f n) plan₁ c) where
-        pub length-short : length slice / 2 < c → SetLengthResult b f n slice (Refused PlanLength) slice
+        pub length-short : length slice / 2 < c → PlanResult (setLength house b f n slice) (Refused PlanLength) slice
         length-short l = length-gives (too-short (lengthFaults b f n) (lengthPairs b f n) slice 0 (length-done b f n e z end) refl (q .next) l)
 
-        pub length-laid : {slice′ : List ℕ} {c′ : ℕ} → c ≤ length slice / 2 → Laid slice 0 (lengthPairs b f n) slice′ c′ → SetLengthResult b f n slice (Done c) slice′
+        pub length-laid : {slice′ : List ℕ} {c′ : ℕ} → c ≤ length slice / 2 → Laid slice 0 (lengthPairs b f n) slice′ c′ → PlanResult (setLength house b f n slice) (Done c) slice′
         length-laid l q′ = length-gives (long-enough (lengthFaults b f n) (lengthPairs b f n) slice 0 (length-done b f n e z end) refl (q .next) l (q′ .is))

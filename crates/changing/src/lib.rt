@@ -26,10 +26,11 @@ ghost use lib.ListN.{length};
 ghost use Rattle.model.specs.Layout.{house};
 ghost use Rattle.model.specs.Plan.{pairs};
 ghost use Rattle.model.specs.Change.{growth, writePlan, lengthPlan};
-ghost use Rattle.plans.specs.Laying.{Laid};
+ghost use Rattle.model.specs.Calls.{write, setLength};
+ghost use Rattle.plans.specs.Laying.{Laid, PlanResult};
 ghost use Rattle.building.specs.Taking.{taking, Blocks};
 ghost use Rattle.ways.specs.Planning.{PlanLaid};
-ghost use Rattle.changing.specs.Results.{WriteResult, SetLengthResult, Listed, File, growing, grownPlan, Growable, Stocked};
+ghost use Rattle.changing.specs.Asked.{Listed, File, growing, grownPlan, Growable, Stocked};
 
 // Lists the blocks from 1 to top - 1 that are not marked, at the front of a table. Answers how many there are.
 fn list_free(marks: &[u64], top: u64, table: &mut [u64]) -> u64
@@ -121,7 +122,7 @@ fn write_some(
     new: &[u8],
 ) -> Answer
     requires { ⌜ Stocked (now board) file o (now new) (now free) count ⌝ }
-    ensures { λ r. ⌜ WriteResult (now (board .entry)) file o (now (new .entry)) (now (plan .entry)) r (now (plan .exit)) ⌝ }
+    ensures { λ r. ⌜ PlanResult (write house (now (board .entry)) file o (now (new .entry)) (now (plan .entry))) r (now (plan .exit)) ⌝ }
 {
     if count < growth_blocks(board, free, file, o + new.len() as u64) {
         return Answer::Refused(Fault::FreeBlocks);
@@ -140,7 +141,7 @@ fn write_some(
 
 // Write: plans `bytes` at `offset` of a file. Answers the pair count, or refused 1 to 8.
 pub fn write(board: &[u64], file: u64, offset: u64, bytes: &[u8], plan: &mut [u64]) -> Answer
-    ensures { λ r. ⌜ WriteResult (now (board .entry)) file offset (now (bytes .entry)) (now (plan .entry)) r (now (plan .exit)) ⌝ }
+    ensures { λ r. ⌜ PlanResult (write house (now (board .entry)) file offset (now (bytes .entry)) (now (plan .entry))) r (now (plan .exit)) ⌝ }
 {
     let mut marks = [0u64; 1024];
     let found = survey(board, &mut marks);
@@ -191,7 +192,7 @@ fn plan_length(board: &[u64], plan: &mut [u64], file: u64, n: u64) -> u64
 
 // Length change: plans `length` as a file's size. Answers the pair count, or refused 1, 2, 3, 4, 6, 8.
 pub fn set_length(board: &[u64], file: u64, length: u64, plan: &mut [u64]) -> Answer
-    ensures { λ r. ⌜ SetLengthResult (now (board .entry)) file length (now (plan .entry)) r (now (plan .exit)) ⌝ }
+    ensures { λ r. ⌜ PlanResult (setLength house (now (board .entry)) file length (now (plan .entry))) r (now (plan .exit)) ⌝ }
 {
     let found = check_file(board, file);
     let Answer::Done(_) = found else {

@@ -1,15 +1,12 @@
 -- Format: the parts of its plan as they are laid, and its ways out.
-use mathlib.Core.Path.{_≡_, sym, ap, _∙_}
-use mathlib.Core.Bool.{Bool, true, false, not, cond}
+use mathlib.Core.Path.{_≡_, refl, sym, ap, _∙_}
+use mathlib.Core.Bool.{Bool, true, false}
 use mathlib.Core.List.{List, [], _∷_, _++_, append-assoc, append-nil}
 use Prim.Native.Nat.{ℕ, zero, suc, _+_, _-_, _*_, _≤_, _<_}
 use native.Mathlib.Omega.{arith}
 use native.Mathlib.Nat.{add-zero, add-suc, suc-add}
 use native.Mathlib.Numerals.{add-one}
 use lib.ListN.{length, replicate}
-use lib.Dec.{ltb}
-use borrow.Author.Tests.{lt-ltb, le-ltb}
-use Rattle.model.specs.declared.Fault.{Fault}
 use Rattle.model.specs.declared.Fault.the-variants.{WordCount, PlanLength}
 use Rattle.model.specs.declared.Answer.the-variants.{Done, Refused}
 use Rattle.model.specs.Lists.{tabulate}
@@ -19,13 +16,14 @@ use Rattle.model.specs.Store.{Store, store, barrier, fenced, laid}
 use Rattle.model.specs.Plan.{pairs}
 use Rattle.model.specs.Fresh.{Page, stored}
 use Rattle.model.specs.Format.{inodePage, formatPages, trailerAddress, trailerStores, formatPlan}
-use Rattle.model.specs.Answers.{answered, unlessRefused}
-use Rattle.model.specs.Calls.{wordCountFault, planned, format}
+use Rattle.model.specs.Answers.{answered}
+use Rattle.model.specs.Calls.{wordCountFault, format}
 use Rattle.model.proofs.Perform.{length-tabulate, pageStore, length-stored}
 use Rattle.model.proofs.Formatted.{clears, commits, trailerStore, pages, filling, length-pages, format-epochs, format-pairs, house-fits}
 use Rattle.plans.specs.Laying.{blockStores, Laid}
 use Rattle.plans.proofs.Laying as Laying
 use Rattle.plans.specs.Laying.{PlanResult}
+use Rattle.plans.proofs.Refusing.{turned, too-short, long-enough}
 
 -- ---- Blocks 1 to 9
 
@@ -102,25 +100,27 @@ format-laid {k = k} b ek e₁ e₂ e₃ e₄ e₅ e₆ =
 
 -- ---- Ways out
 
-answer-shape : (b l : List ℕ) → format house b l .answer
-    ≡ cond (not (wordCountSound house b)) (Refused WordCount) (cond (ltb (length l) 166) (Refused PlanLength) (Done 83))
-unfolding format planned wordCountFault answered
-answer-shape b l = rw (format-pairs house house-fits b)
+module _ (b : List ℕ) where
+  abbrev plan : List Store
+  plan = pairs (formatPlan house b)
 
-module _ (b l : List ℕ) where
-  refused : {f : Fault} → Refused f ≡ format house b l .answer → PlanResult (format house b l) (Refused f) l
-  unfolding format planned unlessRefused
-  refused e = record { answer = e; plan = rw (← e) }
+  pub miscounted : {l : List ℕ} {w : Bool} → w ≡ wordCountSound house b → w ≡ false → PlanResult (format house b l) (Refused WordCount) l
+  unfolding format wordCountFault answered
+  miscounted {l} e z = turned (wordCountFault house b) plan l 0 (sym (rw (← e, z))) refl
 
-  pub miscounted : {w : Bool} → w ≡ wordCountSound house b → w ≡ false → PlanResult (format house b l) (Refused WordCount) l
-  miscounted e z = refused (sym (answer-shape b l ∙ rw (← e, z)))
+  module _ {w : Bool} (e : w ≡ wordCountSound house b) (z : w ≡ true) where
+    counts : Done 0 ≡ answered (wordCountFault house b) 0
+    unfolding wordCountFault answered
+    counts = sym (rw (← e, z))
 
-  module _ {w : Bool} (ew : w ≡ wordCountSound house b) (zw : w ≡ true) where
-    pub short : length l < 166 → PlanResult (format house b l) (Refused PlanLength) l
-    short h = refused (sym (answer-shape b l ∙ rw (← ew, zw, lt-ltb (length l) 166 h)))
+    -- *Its plan has 83 pairs*
+    pairs-83 : 83 ≡ 0 + length plan
+    pairs-83 = omega (arith, format-pairs house house-fits b)
 
-    pub done : {l′ : List ℕ} → 166 ≤ length l → l′ ≡ laid l 0 (pairs (formatPlan house b)) → PlanResult (format house b l) (Done 83) l′
-    unfolding format planned unlessRefused
-    done h e =
-        let answer : format house b l .answer ≡ Done 83 = answer-shape b l ∙ rw (← ew, zw, le-ltb (length l) 166 h) in
-        record { answer = sym answer; plan = e ∙ rw answer }
+    pub short : {l : List ℕ} → length l < 166 → PlanResult (format house b l) (Refused PlanLength) l
+    unfolding format
+    short {l} h = too-short (wordCountFault house b) plan l 0 counts refl pairs-83 (omega arith)
+
+    pub done : (l : List ℕ) {l′ : List ℕ} → 166 ≤ length l → l′ ≡ laid l 0 plan → PlanResult (format house b l) (Done 83) l′
+    unfolding format
+    done l h e′ = long-enough (wordCountFault house b) plan l 0 counts refl pairs-83 (omega arith) e′

@@ -1,11 +1,10 @@
--- What write and length change answer and leave in the plan slice: the definition's, on all inputs.
+-- What the functions that plan a write and a length change are asked on.
 use mathlib.Core.Path.{_≡_}
 use mathlib.Core.Bool.{Bool, _&&_}
 use mathlib.Core.List.{List, _++_}
 use Prim.Native.Nat.{ℕ, _+_, _-_, _≤_, _<_}
 use lib.ListN.{length, drop}
 use lib.Dec.{T, ltb}
-use Rattle.model.specs.declared.Answer.{Answer}
 use Rattle.model.specs.declared.WalkEnd.the-variants.{Hole}
 use Rattle.model.specs.Lists.{concat, pickFrom}
 use Rattle.model.specs.Layout.{house}
@@ -14,17 +13,9 @@ use Rattle.model.specs.Board.{rootHeight, size, free, accepted}
 use Rattle.model.specs.Store.{performed}
 use Rattle.model.specs.Plan.{Plan, planEpochs, afterwards}
 use Rattle.model.specs.Change.{growth, chosenWay}
-use Rattle.model.specs.Calls.{lowest, write, setLength}
+use Rattle.model.specs.Calls.{lowest}
 use Rattle.boards.specs.Survey.{spare}
 use Rattle.building.specs.Taking.{taking, Blocks}
-
-pub record WriteResult (b : List ℕ) (f o : ℕ) (new slice : List ℕ) (r : Answer) (slice′ : List ℕ) : Type 0 where
-  pub answer : r ≡ write house b f o new slice .answer
-  pub plan : slice′ ≡ write house b f o new slice .slice
-
-pub record SetLengthResult (b : List ℕ) (f n : ℕ) (slice : List ℕ) (r : Answer) (slice′ : List ℕ) : Type 0 where
-  pub answer : r ≡ setLength house b f n slice .answer
-  pub plan : slice′ ≡ setLength house b f n slice .slice
 
 -- the blocks that marks have free, of those below top, at the front of a table
 pub record Listed (marks : List ℕ) (top : ℕ) (table : List ℕ) (r : ℕ) (table′ : List ℕ) : Type 0 where
