@@ -1,9 +1,9 @@
 -- No answer is too great for a signed number.
 use mathlib.Core.Path.{_≡_, refl, sym, _∙_}
 use mathlib.Core.Logic.{inl, inr}
-use mathlib.Core.Bool.{Bool, true, false, cond, _&&_, false≢true}
+use mathlib.Core.Bool.{Bool, true, false, not, cond, _&&_, false≢true}
 use mathlib.Core.List.{List, [], _∷_}
-use Prim.Native.Nat.{ℕ, _≤_, _<_, _^_}
+use Prim.Native.Nat.{ℕ, zero, suc, _+_, _-_, _/_, _^_, _≤_, _<_}
 use native.Mathlib.Omega.{arith}
 use lib.ListN.{length}
 use lib.Dec.{leb}
@@ -11,18 +11,18 @@ use borrow.Author.Tests.{le-leb, lt-leb}
 use Rattle.model.specs.declared.Fault.the-variants.{FileNumber}
 use Rattle.model.specs.declared.Answer.{Answer}
 use Rattle.model.specs.declared.Answer.the-variants.{Done, Refused}
-use Rattle.model.specs.Lists.{every, distinct}
+use Rattle.model.specs.Lists.{every, consIf, pickFrom, member, distinct}
 use Rattle.model.specs.Layout.{house, files}
 use Rattle.model.specs.Tree.{span}
-use Rattle.model.specs.Board.{greatest, size, liveBlocks, leafSound, fileSound, treesSound}
+use Rattle.model.specs.Board.{greatest, blockCount, size, liveBlocks, free, leafSound, fileSound, treesSound}
 use Rattle.model.specs.Answers.{Faults, answered, counted}
-use Rattle.model.specs.Calls.{boardFaults, fileFaults, checkAnswer, sizeAnswer, readCount, readAnswer}
+use Rattle.model.specs.Calls.{boardFaults, fileFaults, checkAnswer, freeCountAnswer, sizeAnswer, readCount, readAnswer}
 use Rattle.model.proofs.Cases.{split, true-left, true-right, every-fails}
 use Rattle.model.proofs.Refusals.{first-refused, first-done}
 use Rattle.boards.proofs.Surveying.{sound}
 use Rattle.reading.specs.Results.{ReadResult}
 
-counted-most : (fs : Faults) (n : ℕ) → counted (answered fs n) ≤ n
+pub counted-most : (fs : Faults) (n : ℕ) → counted (answered fs n) ≤ n
 unfolding answered counted
 counted-most [] n = omega arith
 counted-most (t ∷ ts) n = by (t .1) (counted-most ts n)
@@ -53,10 +53,26 @@ module _ (b : List ℕ) (f : ℕ) where
     | inr l ↦ rw (le-leb 32 f l) (omega arith)
   ])
 
+-- no more are picked than there are
+pick-most : (c n : ℕ) (p : ℕ → Bool) → length (pickFrom c n p) ≤ n
+unfolding pickFrom consIf
+pick-most c zero p = omega arith
+pick-most c (suc n) p = by (p c) (pick-most (c + 1) n p)
+  where
+    by : (t : Bool) → length (pickFrom (c + 1) n p) ≤ n → length (consIf t c (pickFrom (c + 1) n p)) ≤ suc n
+    by true h = omega arith
+    by false h = omega arith
+
 module _ (b : List ℕ) {r : Answer} where
   pub check-small : r ≡ checkAnswer house b → counted r < 2 ^ 63
   unfolding checkAnswer
   check-small e = rw e (omega (arith, counted-most (boardFaults house b) 0))
+
+  pub free-small : length b < 2 ^ 64 → r ≡ freeCountAnswer house b → counted r < 2 ^ 63
+  unfolding freeCountAnswer free blockCount
+  free-small h e =
+      let live : ℕ → Bool = λ k. not (member k (liveBlocks house b)) in
+      rw e (omega (arith, counted-most (boardFaults house b) (length (pickFrom 1 (length b / 8 - 2) live)), pick-most 1 (length b / 8 - 2) live))
 
   pub size-small : (f : ℕ) → r ≡ sizeAnswer house b f → counted r < 2 ^ 63
   size-small f e = rw e (omega (arith, size-counted b f (checkAnswer house b) refl))

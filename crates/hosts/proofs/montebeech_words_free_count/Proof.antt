@@ -1,0 +1,15 @@
+use native.Mathlib.Omega.{arith}
+use borrow.Author.Needs.{needs}
+use Rattle.reading.proofs.Bounds.{free-small}
+use Rattle.hosts.proofs.Answers.{as-signed}
+use Rattle.hosts.proofs.montebeech_words_free_count.Statement.{statement}
+use Rattle.hosts.proofs.montebeech_words_free_count.Tie as tie
+
+signed-requires : tie.Need-signed-requires
+signed-requires c κs = free-small _ (omega arith) (c .free-count .ensures)
+
+returns : tie.Need-returns
+returns c = as-signed (record { sfits = c .signed .ok }) (c .signed .ensures) (c .before .free-count .ensures)
+
+pub montebeech-words-free-count-spec : {M : Type 1} → statement M
+montebeech-words-free-count-spec = tie.close (tie.spec (λ c κs. search needs) signed-requires returns)
