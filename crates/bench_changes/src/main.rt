@@ -50,7 +50,10 @@ fn e1(board: &mut [u64]) {
 fn e2(board: &mut [u64]) {
     formatted(board);
     let mut plan = [0u64; 22];
-    line(b"E2 in 21 words", write(board, 0, 0, b"AB", &mut plan[..21]));
+    line(
+        b"E2 in 21 words",
+        write(board, 0, 0, b"AB", &mut plan[..21]),
+    );
     line(b"E2 in 22 words", write(board, 0, 0, b"AB", &mut plan));
     written(b"E2 write 65 66 at 0", board, 0, b"AB");
     line(b"E2 free", free_count(board));
@@ -100,8 +103,14 @@ fn e9(board: &mut [u64]) {
     formatted(board);
     let new = [1u8; 257];
     let mut plan = [0u64; 128];
-    line(b"E9 write of 257 bytes", write(board, 0, 0, &new, &mut plan));
-    line(b"E9 write of 256 bytes", write(board, 0, 0, &new[..256], &mut plan));
+    line(
+        b"E9 write of 257 bytes",
+        write(board, 0, 0, &new, &mut plan),
+    );
+    line(
+        b"E9 write of 256 bytes",
+        write(board, 0, 0, &new[..256], &mut plan),
+    );
 }
 
 fn e10(board: &mut [u64]) {
@@ -110,7 +119,12 @@ fn e10(board: &mut [u64]) {
     written(b"E10 write of no bytes at 2, the size", board, 2, b"");
     written(b"E10 write of no bytes at 3", board, 3, b"");
     written(b"E10 write of 67 at 3", board, 3, b"C");
-    written(b"E10 write of 67 at 2^64 - 1", board, 18446744073709551615, b"C");
+    written(
+        b"E10 write of 67 at 2^64 - 1",
+        board,
+        18446744073709551615,
+        b"C",
+    );
     written(b"E10 write of 67 at 2, the size", board, 2, b"C");
 }
 

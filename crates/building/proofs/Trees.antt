@@ -118,9 +118,14 @@ module _ {free b : List ℕ} {h k n o : ℕ} {new plan₀ : List ℕ} {base c j 
           let same : build 8 (taking free) b h (x / 8) m o′ own taken ≡ child free b h k n o new c j = cc (taken-before) in
           let l : ℕ = partLength (span 8 h) j o (length new) in
           let count : taken′ ≡ c + needBefore 8 h o (length new) j + need 8 h (o - j * span 8 h) l =
-          omega (arith, u .next, ap length same, taken-before,
+          omega (
+            arith,
+            u .next,
+            ap length same,
+            taken-before,
             length-build 8 positive b (taking free) h (link 8 b k j / 8) (n - j * span 8 h) (o - j * span 8 h) (part (span 8 h) j o new) (c + needBefore 8 h o (length new) j),
-            ap (need 8 h (o - j * span 8 h)) (length-part (span 8 h) j o new)) in
+            ap (need 8 h (o - j * span 8 h)) (length-part (span 8 h) j o new),
+          ) in
           turn-set (Taken.same-pages same u) (ap (λ (y : ℕ). 8 * y) eb ∙ ap (λ (y : ℕ). 8 * getD free (y - 1) 0) count ∙ sym (choose-pos l _ _ (omega (arith, own-length, some))))
 
 -- ---- The tree

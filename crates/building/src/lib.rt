@@ -161,7 +161,19 @@ pub fn build(
         let own = part(new, s, j as u64, o);
         let x = link_on(board, grown, k, j as u64);
         if own.len() != 0 {
-            taken = build(board, grown, free, plan, base, h - 1, x / 8, minus(n, first), minus(o, first), own, taken);
+            taken = build(
+                board,
+                grown,
+                free,
+                plan,
+                base,
+                h - 1,
+                x / 8,
+                minus(n, first),
+                minus(o, first),
+                own,
+                taken,
+            );
             page[j] = 8 * word(free, taken - 1);
         } else if first < n {
             page[j] = x;

@@ -12,12 +12,12 @@ use reading::check_file;
 use tails::in_place;
 use trees::root_walk;
 use trees::span;
+use ways::Count;
 use ways::grow;
 use ways::least_height;
 use ways::root_address;
 use ways::single;
 use ways::way;
-use ways::Count;
 use words::put;
 use words::word;
 ghost use mathlib.Core.Path.{_≡_};
@@ -88,7 +88,17 @@ fn plan_grown(board: &[u64], free: &[u64], plan: &mut [u64], file: u64, o: u64, 
     barrier(plan, count.pairs);
     let end = 2 * count.pairs as usize;
     let base = count.pairs + 1 - 8 * count.taken;
-    way(board, &stores[..end], free, plan, base, file, o, new, count.taken)
+    way(
+        board,
+        &stores[..end],
+        free,
+        plan,
+        base,
+        file,
+        o,
+        new,
+        count.taken,
+    )
 }
 
 // Plans a write. A single word is never one that growth comes before, so the lent board decides it.
@@ -186,7 +196,19 @@ fn plan_length(board: &[u64], plan: &mut [u64], file: u64, n: u64) -> u64
     let zeros = [0u8; 32768];
     let none = [0u64; 0];
     let len = (n - s) as usize;
-    let q = in_place(board, &none, &none, plan, 0, root % 8, root / 8, s, &zeros[..len], 0, at);
+    let q = in_place(
+        board,
+        &none,
+        &none,
+        plan,
+        0,
+        root % 8,
+        root / 8,
+        s,
+        &zeros[..len],
+        0,
+        at,
+    );
     commit(plan, 0, q, at + 1, n)
 }
 

@@ -33,7 +33,12 @@ pub extern "C" fn montebeech_words_size(board: &[u64], file: u64) -> i64
 
 // Read: fills `out` from byte `offset` on and answers the count, or -1, -2, -3, -4.
 #[no_mangle]
-pub extern "C" fn montebeech_words_read(board: &[u64], file: u64, offset: u64, out: &mut [u8]) -> i64
+pub extern "C" fn montebeech_words_read(
+    board: &[u64],
+    file: u64,
+    offset: u64,
+    out: &mut [u8],
+) -> i64
     ensures { λ r. ⌜ WordsRead (now (board .entry)) file offset (now (out .entry)) r (now (out .exit)) ⌝ }
 {
     signed(reading::read(board, file, offset, out))
@@ -41,7 +46,13 @@ pub extern "C" fn montebeech_words_read(board: &[u64], file: u64, offset: u64, o
 
 // Write: plans `bytes` at `offset` of a file and answers the pair count, or -1 to -8.
 #[no_mangle]
-pub extern "C" fn montebeech_words_write(board: &[u64], file: u64, offset: u64, bytes: &[u8], plan: &mut [u64]) -> i64
+pub extern "C" fn montebeech_words_write(
+    board: &[u64],
+    file: u64,
+    offset: u64,
+    bytes: &[u8],
+    plan: &mut [u64],
+) -> i64
     ensures { λ r. ⌜ WordsPlan (write house (now (board .entry)) file offset (now (bytes .entry)) (now (plan .entry))) r (now (plan .exit)) ⌝ }
 {
     signed(changing::write(board, file, offset, bytes, plan))
@@ -49,7 +60,12 @@ pub extern "C" fn montebeech_words_write(board: &[u64], file: u64, offset: u64, 
 
 // Length change: plans `length` as a file's size and answers the pair count, or -1, -2, -3, -4, -6, -8.
 #[no_mangle]
-pub extern "C" fn montebeech_words_set_length(board: &[u64], file: u64, length: u64, plan: &mut [u64]) -> i64
+pub extern "C" fn montebeech_words_set_length(
+    board: &[u64],
+    file: u64,
+    length: u64,
+    plan: &mut [u64],
+) -> i64
     ensures { λ r. ⌜ WordsPlan (setLength house (now (board .entry)) file length (now (plan .entry))) r (now (plan .exit)) ⌝ }
 {
     signed(changing::set_length(board, file, length, plan))

@@ -26,8 +26,11 @@ at-most-one (suc m) x = omega arith
 module _ (b : List ℕ) (hook : ℕ → ℕ → ℕ → ℕ) where
   words-most : (k n : ℕ) (new : List ℕ) → length (tailWords 8 b k n new) ≤ 8
   unfolding tailWords
-  words-most k n new = omega (arith, length-joined 8 (λ j. choose (partLength 8 j n (length new)) [] (store (8 * k + j) (dataPage 8 b k n n new j) ∷ [])),
-      eight (λ j. length (choose (partLength 8 j n (length new)) [] (store (8 * k + j) (dataPage 8 b k n n new j) ∷ []))) 1 (λ j. at-most-one (partLength 8 j n (length new)) (store (8 * k + j) (dataPage 8 b k n n new j))))
+  words-most k n new = omega (
+    arith,
+    length-joined 8 (λ j. choose (partLength 8 j n (length new)) [] (store (8 * k + j) (dataPage 8 b k n n new j) ∷ [])),
+    eight (λ j. length (choose (partLength 8 j n (length new)) [] (store (8 * k + j) (dataPage 8 b k n n new j) ∷ []))) 1 (λ j. at-most-one (partLength 8 j n (length new)) (store (8 * k + j) (dataPage 8 b k n n new j))),
+  )
 
   hooked-most : (h : ℕ) (new : List ℕ) (c a : ℕ) → length (hooked 8 b hook h new c a) ≤ 1
   unfolding hooked
@@ -43,5 +46,9 @@ module _ (b : List ℕ) (hook : ℕ → ℕ → ℕ → ℕ) where
   place-most (suc h) zero (suc n) new c a = omega arith
   place-most (suc h) (suc k) (suc n) new c a =
       let f : ℕ → List Store = λ j. inPlace 8 b hook h (cell 8 b (suc k) j / 8) (suc n - j * span 8 h) (part (span 8 h) j (suc n) new) (c + tailBefore 8 h (suc n) (length new) j) (8 * suc k + j) in
-      omega (arith, length-joined 8 f, eight (λ j. length (f j)) (8 * most h)
-      (λ j. place-most h (cell 8 b (suc k) j / 8) (suc n - j * span 8 h) (part (span 8 h) j (suc n) new) (c + tailBefore 8 h (suc n) (length new) j) (8 * suc k + j)))
+      omega (
+        arith,
+        length-joined 8 f,
+        eight (λ j. length (f j)) (8 * most h)
+            (λ j. place-most h (cell 8 b (suc k) j / 8) (suc n - j * span 8 h) (part (span 8 h) j (suc n) new) (c + tailBefore 8 h (suc n) (length new) j) (8 * suc k + j)),
+      )

@@ -46,7 +46,15 @@ pub fn walk_live(board: &[u64], grown: &[u64], h: u64, k: u64, n: u64) -> WalkEn
 }
 
 // Lays the words of data block k that hold bytes of `new`, from place p on. Answers the next place.
-fn tail_words(board: &[u64], grown: &[u64], plan: &mut [u64], p: u64, k: u64, n: u64, new: &[u8]) -> u64
+fn tail_words(
+    board: &[u64],
+    grown: &[u64],
+    plan: &mut [u64],
+    p: u64,
+    k: u64,
+    n: u64,
+    new: &[u8],
+) -> u64
     requires { ⌜ (k < 2 ^ 61) × (0 < k) × (p + length (tailWords 8 (onto (now board) (now grown)) k n (now new)) ≤ 2 ^ 32) ⌝ }
     ensures { λ r. ⌜ Laid (now (plan .entry)) p (tailWords 8 (onto (now (board .entry)) (now (grown .entry))) k n (now (new .entry))) (now (plan .exit)) r ⌝ }
 {
@@ -93,7 +101,18 @@ pub fn tail_pages(
         let own = part(new, s, j, n);
         if own.len() != 0 {
             let x = link_on(board, grown, k, j);
-            taken = tail_pages(board, grown, free, plan, base, h - 1, x / 8, minus(n, j * s), own, taken);
+            taken = tail_pages(
+                board,
+                grown,
+                free,
+                plan,
+                base,
+                h - 1,
+                x / 8,
+                minus(n, j * s),
+                own,
+                taken,
+            );
         }
         j += 1;
     }
@@ -106,7 +125,11 @@ fn hook(board: &[u64], grown: &[u64], free: &[u64], h: u64, new: &[u8], c: u64) 
     ensures { λ r. ⌜ r ≡ hooks (now (free .entry)) h (length (now (new .entry))) c ⌝ }
 {
     let mut none = [0u64; 0];
-    8 * word(free, build(board, grown, free, &mut none, 0, h, 0, 0, 0, new, c) - 1)
+    8
+        * word(
+            free,
+            build(board, grown, free, &mut none, 0, h, 0, 0, 0, new, c) - 1,
+        )
 }
 
 // Lays the stores to words that exist, from place p on, for the tree (h, k, n) whose pointer stands at address a. Answers the next place.
@@ -151,7 +174,19 @@ pub fn in_place(
         if own.len() != 0 {
             let x = cell_on(board, grown, k, j) / 8;
             let left = minus(n, j * s);
-            q = in_place(board, grown, free, plan, q, h - 1, x, left, own, taken, 8 * k + j);
+            q = in_place(
+                board,
+                grown,
+                free,
+                plan,
+                q,
+                h - 1,
+                x,
+                left,
+                own,
+                taken,
+                8 * k + j,
+            );
             taken = tail_pages(board, grown, free, &mut none, 0, h - 1, x, left, own, taken);
         }
         j += 1;

@@ -96,10 +96,7 @@ pub fn single(board: &[u64], plan: &mut [u64], k: u64, o: u64, new: &[u8]) -> Co
 {
     let at = 8 * k + o % 64 / 8;
     pair(plan, 0, at, spliced(word(board, at), 8, o % 8, new, 0));
-    Count {
-        pairs: 1,
-        taken: 0,
-    }
+    Count { pairs: 1, taken: 0 }
 }
 
 // A write into an empty file.
@@ -150,8 +147,31 @@ fn append(
     let at = root_address(board, file);
     let root = word_on(board, grown, at);
     let s = word_on(board, grown, at + 1);
-    let taken = tail_pages(board, grown, free, plan, base, root % 8, root / 8, s, new, c);
-    let q = in_place(board, grown, free, plan, base + 8 * taken, root % 8, root / 8, s, new, c, at);
+    let taken = tail_pages(
+        board,
+        grown,
+        free,
+        plan,
+        base,
+        root % 8,
+        root / 8,
+        s,
+        new,
+        c,
+    );
+    let q = in_place(
+        board,
+        grown,
+        free,
+        plan,
+        base + 8 * taken,
+        root % 8,
+        root / 8,
+        s,
+        new,
+        c,
+        at,
+    );
     let pairs = commit(plan, base + 8 * c, q, at + 1, s + new.len() as u64);
     Count {
         pairs: pairs,
@@ -222,9 +242,27 @@ fn shadow_inside(
     let root = word_on(board, grown, at);
     let s = word_on(board, grown, at + 1);
     let spot = descend(board, grown, root % 8, root / 8, s, o, new, at);
-    let taken = build(board, grown, free, plan, base, spot.height, spot.block, spot.left, spot.offset, new, c);
+    let taken = build(
+        board,
+        grown,
+        free,
+        plan,
+        base,
+        spot.height,
+        spot.block,
+        spot.left,
+        spot.offset,
+        new,
+        c,
+    );
     let low = word_on(board, grown, spot.at) % 8;
-    let pairs = commit(plan, base + 8 * c, base + 8 * taken, spot.at, 8 * word(free, taken - 1) + low);
+    let pairs = commit(
+        plan,
+        base + 8 * c,
+        base + 8 * taken,
+        spot.at,
+        8 * word(free, taken - 1) + low,
+    );
     Count {
         pairs: pairs,
         taken: taken,
@@ -272,12 +310,30 @@ fn shadow_with_length(
     let root = word_on(board, grown, at);
     let s = word_on(board, grown, at + 1);
     let e = o + new.len() as u64;
-    let taken = build(board, grown, free, plan, base, root % 8, root / 8, s, o, new, c);
+    let taken = build(
+        board,
+        grown,
+        free,
+        plan,
+        base,
+        root % 8,
+        root / 8,
+        s,
+        o,
+        new,
+        c,
+    );
     let size = if s < e { e } else { s };
     let page = leaf_words(board, grown, at, 8 * word(free, taken - 1) + root % 8, size);
     let all = take(free, plan, base, page, taken);
     let pointer = 8 * (trailer(board, 0) / 8) + file / 4;
-    let pairs = commit(plan, base + 8 * c, base + 8 * all, pointer, 8 * word(free, taken));
+    let pairs = commit(
+        plan,
+        base + 8 * c,
+        base + 8 * all,
+        pointer,
+        8 * word(free, taken),
+    );
     Count {
         pairs: pairs,
         taken: all,

@@ -35,8 +35,22 @@ below t = and 5 kinds.ps (falls 5 kinds.ps _<_ μ t) build.Pre
 
 abbrev known : ℕ → lts.Claims
 known t = (
-  take-data-reads.Asked, take-data-reads.Learnt, span-reads.Asked, span-reads.Learnt, part-reads.Asked, part-reads.Learnt, link-on-reads.Asked, link-on-reads.Learnt,
-  minus-reads.Asked, minus-reads.Learnt, below t, build.Post, word-reads.Asked, word-reads.Learnt, take-reads.Asked, take-reads.Learnt,
+  take-data-reads.Asked,
+  take-data-reads.Learnt,
+  span-reads.Asked,
+  span-reads.Learnt,
+  part-reads.Asked,
+  part-reads.Learnt,
+  link-on-reads.Asked,
+  link-on-reads.Learnt,
+  minus-reads.Asked,
+  minus-reads.Learnt,
+  below t,
+  build.Post,
+  word-reads.Asked,
+  word-reads.Learnt,
+  take-reads.Asked,
+  take-reads.Learnt,
 )
 
 abbrev Inv-loop : lts.InvT-loop

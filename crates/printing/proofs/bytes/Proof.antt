@@ -20,7 +20,6 @@ cast-print-decimal c = omega (arith, c .shared-slice-known3 .given (c .before .b
 loop-again : tie.Need-loop-again Inv-loop μ-loop
 loop-again c = tt
 
-
 pub bytes-spec : {M : Type 1} → statement M
 bytes-spec =
     tie.close

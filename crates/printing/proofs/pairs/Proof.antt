@@ -17,7 +17,6 @@ loop-holds c = tt
 loop-again : tie.Need-loop-again Inv-loop μ-loop
 loop-again c = tt
 
-
 pub pairs-spec : {M : Type 1} → statement M
 pairs-spec =
     tie.close
