@@ -148,7 +148,7 @@ unfolding writeFaults answered greatest span
 write-done b f o new k within end room = sym (first-done (fileFaults house b f) (ownFaults b f o new) 0 0 (file-done k) refl
     ∙ rw (le-ltb (size house b f) o within, le-ltb 32768 (o + length new) end, le-ltb (length (free house b)) (lowestPlan b f o new .taken) room))
 
-module _ (b : List ℕ) (f o : ℕ) (new : List ℕ) {slice : List ℕ} where
+module _ (b : List ℕ) (f o : ℕ) (new slice : List ℕ) where
   -- the definition's answer and slice
   write-gives : {r : Answer} {slice′ : List ℕ} → PlanResult (planned (allFaults b f o new) (pairs (lowestPlan b f o new)) slice) r slice′ → PlanResult (write house b f o new slice) r slice′
   unfolding write
@@ -191,10 +191,10 @@ module _ (b : List ℕ) (f o : ℕ) (new : List ℕ) {slice : List ℕ} where
           whole l es = write-gives (long-enough (allFaults b f o new) (pairs (lowestPlan b f o new)) slice 0 (write-done b f o new k within end room) refl en l es)
 
 -- nothing to write
-pub write-nothing : (b : List ℕ) (f o : ℕ) (new : List ℕ) {slice : List ℕ} → File b f → o ≤ size house b f → length new ≡ 0 → PlanResult (write house b f o new slice) (Done 0) slice
+pub write-nothing : (b : List ℕ) (f o : ℕ) (new slice : List ℕ) → File b f → o ≤ size house b f → length new ≡ 0 → PlanResult (write house b f o new slice) (Done 0) slice
 unfolding writePlan plan pairs planEpochs fenced
-write-nothing b f o [] {slice} k within e = whole b f o [] k within (omega (arith, size-most k)) (omega arith) refl (omega arith) (sym (laid-none slice 0))
-write-nothing b f o (x ∷ new) k within e = absurd (omega arith)
+write-nothing b f o [] slice k within e = whole b f o [] slice k within (omega (arith, size-most k)) (omega arith) refl (omega arith) (sym (laid-none slice 0))
+write-nothing b f o (x ∷ new) slice k within e = absurd (omega arith)
 
 -- a write of some bytes, planned with the table's blocks, which are the lowest free ones
 module _ {b : List ℕ} {f o : ℕ} {new table : List ℕ} {count : ℕ} (s : Stocked b f o new table count) where
@@ -206,7 +206,7 @@ module _ {b : List ℕ} {f o : ℕ} {new table : List ℕ} {count : ℕ} (s : St
 
   module _ {slice : List ℕ} where
     lacks : count < tablePlan .taken → PlanResult (write house b f o new slice) (Refused FreeBlocks) slice
-    lacks l = no-blocks b f o new (s .asked .of) (s .asked .within) (s .asked .end) (rw (← same-plan) (omega (arith, s .all)))
+    lacks l = no-blocks b f o new slice (s .asked .of) (s .asked .within) (s .asked .end) (rw (← same-plan) (omega (arith, s .all)))
 
     pub growth-lacks : {n : ℕ} → n ≡ growth house (taking table) b f (o + length new) .taken → count < n → PlanResult (write house b f o new slice) (Refused FreeBlocks) slice
     growth-lacks e l = lacks (omega (arith, growth-first (taking table) b f o new (s .asked .some)))
@@ -223,11 +223,11 @@ module _ {b : List ℕ} {f o : ℕ} {new table : List ℕ} {count : ℕ} (s : St
       plan-lacks l = lacks (omega (arith, q .taken))
 
       pub plan-short : r .taken ≤ count → length slice / 2 < r .pairs → PlanResult (write house b f o new slice) (Refused PlanLength) slice
-      plan-short room l = short-slice b f o new (s .asked .of) (s .asked .within) (s .asked .end) (enough room) counted l
+      plan-short room l = short-slice b f o new slice (s .asked .of) (s .asked .within) (s .asked .end) (enough room) counted l
 
       pub plan-laid : {slice′ : List ℕ} {r′ : Count} → r .taken ≤ count → r .pairs ≤ length slice / 2 → PlanLaid slice 0 tablePlan slice′ r′
           → PlanResult (write house b f o new slice) (Done (r .pairs)) slice′
-      plan-laid room l q′ = whole b f o new (s .asked .of) (s .asked .within) (s .asked .end) (enough room) counted l (rw same-plan at (q′ .is))
+      plan-laid room l q′ = whole b f o new slice (s .asked .of) (s .asked .within) (s .asked .end) (enough room) counted l (rw same-plan at (q′ .is))
 
 -- ---- Length change
 
@@ -243,7 +243,7 @@ length-done : (b : List ℕ) (f n : ℕ) {r : Answer} {v : ℕ} → r ≡ answer
 unfolding answered greatest span
 length-done b f n e z end = sym (first-done (fileFaults house b f) ((End, ltb 32768 n) ∷ []) 0 0 e z ∙ rw (le-ltb 32768 n end))
 
-module _ (b : List ℕ) (f n : ℕ) {slice : List ℕ} where
+module _ (b : List ℕ) (f n : ℕ) (slice : List ℕ) where
   -- the definition's answer and slice
   length-gives : {r : Answer} {slice′ : List ℕ} → PlanResult (planned (lengthFaults b f n) (lengthPairs b f n) slice) r slice′ → PlanResult (setLength house b f n slice) r slice′
   unfolding setLength

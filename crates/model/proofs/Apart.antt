@@ -134,7 +134,7 @@ module _ (g : Layout) (fit : Fits g) (b : List ℕ) (ok : Facts g b) where
       unfolding leaf
       spot-leaf l u = ap (λ (x : ℕ). x / g .words) (spot-pointer l u)
 
-      spot-address : (i : ℕ) → i < files g → rootAddress g b i ≡ rootAddress g b₂ i
+      pub spot-address : (i : ℕ) → i < files g → rootAddress g b i ≡ rootAddress g b₂ i
       unfolding rootAddress
       spot-address i u = ap (λ (x : ℕ). g .words * x + 2 * (i % g .inodes)) (spot-leaf (i / g .inodes) (leaf-of g fit i u))
 

@@ -142,7 +142,7 @@ unfolding flat
 length-flat [] = refl
 length-flat (s ∷ ss) = omega (arith, length-flat ss)
 
-paired-flat : (ss : List Store) (rest : List ℕ) → paired (flat ss ++ rest) ≡ ss ++ paired rest
+pub paired-flat : (ss : List Store) (rest : List ℕ) → paired (flat ss ++ rest) ≡ ss ++ paired rest
 unfolding flat paired store
 paired-flat [] rest = refl
 paired-flat (s ∷ ss) rest = ap (λ (r : List Store). s ∷ r) (paired-flat ss rest)

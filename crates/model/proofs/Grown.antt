@@ -43,7 +43,7 @@ module _ (W : ℕ) (pos : 0 < W) (b : List ℕ) (h k p n : ℕ) (there : 0 < p) 
   first-block : link W b p 0 / W ≡ k
   first-block = ap (λ (x : ℕ). x / W) first-pointer ∙ mul-div-cancel-left k pos
 
-  other-block : (j : ℕ) → 0 < j → j < W → link W b p j / W ≡ 0
+  pub other-block : (j : ℕ) → 0 < j → j < W → link W b p j / W ≡ 0
   other-block j some l = ap (λ (x : ℕ). x / W) (other-pointer j some l) ∙ zero-div W
 
   grow-low : (i : ℕ) → i < span W h → byteAt W b (suc h) p n i ≡ byteAt W b h k n i
@@ -98,6 +98,11 @@ module _ (W : ℕ) (fresh : ℕ → ℕ) where
   length-levels zero d some = absurd (omega arith)
   length-levels (suc k) d some = length-tabulate d _
 
+  -- what the last block holds
+  pub last-level : 0 < W → (b : List ℕ) (d : ℕ) (f : ℕ → Page) → held W fresh b (tabulate (suc d) f) 0 → (j : ℕ) → j < W → cell W b (fresh d) j ≡ f d j
+  unfolding tabulate held
+  last-level pos b d f g = subst (λ (c : ℕ). (j : ℕ) → j < W → cell W b (fresh c) j ≡ f d j) (omega (arith, length-tabulate d f)) (held-right W pos b fresh b (tabulate d f) (f d ∷ []) 0 g .0)
+
 module _ (W : ℕ) (pos : 0 < W) (b b′ : List ℕ) (top : ℕ) (fresh : ℕ → ℕ) (lim : ℕ) (nonzero : (i : ℕ) → i < lim → 0 < fresh i) (below : (i : ℕ) → i < lim → fresh i < top) where
   -- d blocks over block k, one after the other
   grown-over : (h k n d : ℕ) → d ≤ lim → held W fresh b′ (tabulate d (λ i. levelPage W (levelBelow fresh k i))) 0 → agree W b b′ h k n
@@ -111,8 +116,7 @@ module _ (W : ℕ) (pos : 0 < W) (b b′ : List ℕ) (top : ℕ) (fresh : ℕ �
   grown-over h k n (suc d) le g a =
       let f : ℕ → Page = λ i. levelPage W (levelBelow fresh k i) in
       let old : Grown W b b′ top h k (h + d) (levelBelow fresh k d) n (λ q. used fresh q 0 d) = grown-over h k n d (omega arith) (held-left W pos b fresh b′ (tabulate d f) (f d ∷ []) 0 g) a in
-      let page : (j : ℕ) → j < W → cell W b′ (fresh d) j ≡ f d j =
-      subst (λ (c : ℕ). (j : ℕ) → j < W → cell W b′ (fresh c) j ≡ f d j) (omega (arith, length-tabulate d f)) (held-right W pos b fresh b′ (tabulate d f) (f d ∷ []) 0 g .0) in
+      let page : (j : ℕ) → j < W → cell W b′ (fresh d) j ≡ f d j = last-level W fresh pos b′ d f g in
       let there : 0 < fresh d = nonzero d (omega arith) in
       rw (add-suc h d) (record {
         bytes = λ i. grow-byte W pos b′ (h + d) (levelBelow fresh k d) (fresh d) n there page i ∙ old .bytes i;

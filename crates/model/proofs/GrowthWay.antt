@@ -13,7 +13,7 @@ use borrow.Author.Tests.{lt-ltb, le-ltb}
 use Rattle.model.specs.Lists.{concat}
 use Rattle.model.specs.Layout.{Layout, Fits, files}
 use Rattle.model.specs.Tree.{live, span, least}
-use Rattle.model.specs.Board.{rootBlocks, greatest, blockCount, rootAddress, sizeAddress, root, size, contents, fileBlocks, liveBlocks, accepted}
+use Rattle.model.specs.Board.{rootBlocks, greatest, blockCount, inodeBlock, rootAddress, sizeAddress, root, size, contents, fileBlocks, liveBlocks, accepted}
 use Rattle.model.specs.Store.{Store, store, performed}
 use Rattle.model.specs.Plan.{Step, step, plan, planEpochs}
 use Rattle.model.specs.Fresh.{Page, stored}
@@ -25,10 +25,10 @@ use Rattle.model.proofs.Addresses.{used-none}
 use Rattle.model.proofs.Agree.{agree, agree-away, agree-blocks, agree-trans}
 use Rattle.model.proofs.Built.{held, used}
 use Rattle.model.proofs.Grown.{Grown, grown}
-use Rattle.model.proofs.Shown.{Same, words-pos, leaf-of, same-address, count-kept, root-block, leaf-live}
+use Rattle.model.proofs.Shown.{Same, words-pos, leaf-of, same-address, count-kept, inode-kept, root-block, leaf-live}
 use Rattle.model.proofs.Accepting.{accepted-parts, Facts, facts}
 use Rattle.model.proofs.Commits.{FileCommit, grown-commit}
-use Rattle.model.proofs.Apart.{Spot, leaf-not-file, spot-ranged, spot-live, spot-size, stored-root}
+use Rattle.model.proofs.Apart.{Spot, leaf-not-file, spot-ranged, spot-live, spot-trailer, spot-address, spot-size, stored-root}
 use Rattle.model.proofs.Committing.{facts-same, spot-same, spot-commit, spot-counts}
 use Rattle.model.proofs.Supplied.{Supply, supply-once}
 use Rattle.model.proofs.Steps.{committed, allCommitted, performed-steps}
@@ -209,12 +209,35 @@ module _ (g : Layout) (fit : Fits g) (b : List ℕ) (t : T (accepted g b)) (f : 
     unfolding step store committed done c₁ value
     growth-size = sym size-done
 
+    pub growth-length : length (committed b (growthStep g fresh b f h)) ≡ length b
+    unfolding step store committed done c₁ value
+    growth-length = sym len
+
+    -- the inode is where it was
+    pub growth-inode : inodeBlock g (committed b (growthStep g fresh b f h)) ≡ inodeBlock g b
+    unfolding step store committed done c₁ value
+    growth-inode = sym (inode-kept g b done len fit
+        (λ j l. shown-same .trailers j l ∙ spot-trailer g fit c₁ (facts-same g fit b c₁ t shown-same) f f-lt (rootAddress g b f) value commit-spot j l))
+
+    pub growth-address : rootAddress g (committed b (growthStep g fresh b f h)) f ≡ rootAddress g b f
+    unfolding step store committed done c₁ value
+    growth-address = sym (address-same ∙ spot-address g fit c₁ (facts-same g fit b c₁ t shown-same) f f-lt (rootAddress g b f) value commit-spot f f-lt)
+
     pub growth-height : root g (committed b (growthStep g fresh b f h)) f % g .words ≡ h
     unfolding step store committed done c₁ value
     growth-height = height-done
 
     pub growth-reaches : e ≤ span (g .words) (root g (committed b (growthStep g fresh b f h)) f % g .words)
     growth-reaches = rw growth-height reaches
+
+    -- over the tree stand the levels
+    pub growth-top : root g (committed b (growthStep g fresh b f h)) f / g .words ≡ top
+    unfolding step store committed done c₁ value
+    growth-top = block-done
+
+    pub growth-held : held (g .words) fresh (committed b (growthStep g fresh b f h)) ps 0
+    unfolding step store committed done c₁ value
+    growth-held = held-done
 
     -- the live blocks are those of b and at most those of the levels
     counts-done : (q : ℕ) → occ q (liveBlocks g done) ≤ occ q (liveBlocks g b) + used fresh q 0 (length ps)

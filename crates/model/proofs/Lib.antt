@@ -45,6 +45,7 @@ pub mod InsideWays
 pub mod SizeWays
 pub mod LeafWay
 pub mod GrowthWay
+pub mod GrownBoard
 pub mod Ways
 pub mod Plans
 -- The rules of specs/Claims.antt

@@ -92,17 +92,18 @@ module _ (g : Layout) (fit : Fits g) (b : List ℕ) (f : ℕ) (wanted : List ℕ
 
 -- ---- Length change
 
-module _ (g : Layout) (fit : Fits g) (b : List ℕ) (t : T (accepted g b)) (f : ℕ) (f-lt : f < files g) (n : ℕ) (most : n ≤ greatest g) where
-  cleared-empty : (s : ℕ) → s ≡ 0 → cleared g b f s n ≡ store (rootAddress g b f) 0 ∷ []
+module _ (g : Layout) (b : List ℕ) (f n : ℕ) where
+  pub cleared-empty : (s : ℕ) → s ≡ 0 → cleared g b f s n ≡ store (rootAddress g b f) 0 ∷ []
   unfolding cleared
   cleared-empty zero e = refl
   cleared-empty (suc s) e = absurd (omega arith)
 
-  cleared-live : (s : ℕ) → 0 < s → cleared g b f s n ≡ inPlace (g .words) b (λ h l c. 0) (root g b f % g .words) (root g b f / g .words) s (replicate (n - s) 0) 0 (rootAddress g b f)
+  pub cleared-live : (s : ℕ) → 0 < s → cleared g b f s n ≡ inPlace (g .words) b (λ h l c. 0) (root g b f % g .words) (root g b f / g .words) s (replicate (n - s) 0) 0 (rootAddress g b f)
   unfolding cleared
   cleared-live zero l = absurd (omega arith)
   cleared-live (suc s) l = refl
 
+module _ (g : Layout) (fit : Fits g) (b : List ℕ) (t : T (accepted g b)) (f : ℕ) (f-lt : f < files g) (n : ℕ) (most : n ≤ greatest g) where
   -- a step of stores to live blocks, committed by the size
   sized-plan : (ss : List Store) → All (λ s. 0 < occ (s .at / g .words) (liveBlocks g b)) ss → GoodStep g b f (step ss (sizeAddress g b f) n) (lengthened g fit b f n)
       → GoodPlan g b f (lengthened g fit b f n) (plan (step ss (sizeAddress g b f) n ∷ []) 0)
@@ -120,9 +121,9 @@ module _ (g : Layout) (fit : Fits g) (b : List ℕ) (t : T (accepted g b)) (f : 
   lengthen-plan more = elim (split (size g b f) 0) [
     | inl z ↦
         let e : size g b f ≡ 0 = omega arith in
-        rw (cleared-empty (size g b f) e) (sized-plan _ (rw (root-block g fit b f) (leaf-live g b (f / g .inodes) (leaf-of g fit f f-lt)), tt)
+        rw (cleared-empty g b f n (size g b f) e) (sized-plan _ (rw (root-block g fit b f) (leaf-live g b (f / g .inodes) (leaf-of g fit f f-lt)), tt)
         (rw (spliced-lengthens g fit b f n more) at (lengthen-empty-good g fit b t f f-lt n e most)))
-    | inr l ↦ rw (cleared-live (size g b f) l) (sized-plan _
+    | inr l ↦ rw (cleared-live g b f n (size g b f) l) (sized-plan _
         (in-place-live g b f f-lt (λ h k c. 0) (replicate (n - size g b f) 0) 0 l)
         (rw (spliced-lengthens g fit b f n more) at (lengthen-good g fit b t f f-lt n l more most)))
   ]

@@ -21,26 +21,26 @@ within c = omega (arith, c .before .size .ensures, c .if2 .left)
 
 returns : tie.Need-returns
 returns c = let s = c .before .before .before in let a = s .before .before .before .before .before .args in let e = c .enum-told2 .given .1 in
-    Calls.write-turned (a .board .now) (a .file) (a .offset) (a .bytes .now) (file-refused (a .board .now) (a .file) (s .survey .ensures .answer) e) e
+    Calls.write-turned (a .board .now) (a .file) (a .offset) (a .bytes .now) (a .plan .now) (file-refused (a .board .now) (a .file) (s .survey .ensures .answer) e) e
 
 returns-2 : tie.Need-returns-2
 returns-2 c = let t = c .before in let s = t .before .before .before in let a = s .before .before .before .before .before .args in
-    Calls.write-turned (a .board .now) (a .file) (a .offset) (a .bytes .now) (file-none (a .board .now) (a .file) (s .survey .ensures .answer) (t .enum-told .given .1) (c .if1 .taken)) refl
+    Calls.write-turned (a .board .now) (a .file) (a .offset) (a .bytes .now) (a .plan .now) (file-none (a .board .now) (a .file) (s .survey .ensures .answer) (t .enum-told .given .1) (c .if1 .taken)) refl
 
 returns-3 : tie.Need-returns-3
 returns-3 c = let a = c .before .before .before .before .before .before .before .before .before .before .before .args in
-    Calls.write-past-size (a .board .now) (a .file) (a .offset) (a .bytes .now) (file (c .before .before)) (c .before .size .ensures) (c .if2 .taken)
+    Calls.write-past-size (a .board .now) (a .file) (a .offset) (a .bytes .now) (a .plan .now) (file (c .before .before)) (c .before .size .ensures) (c .if2 .taken)
 
 sub-if3 : tie.Need-sub-if3
 sub-if3 c = omega (arith, Calls.size-most (file (c .before .before)), within c)
 
 returns-4 : tie.Need-returns-4
 returns-4 c = let a = c .before .before .before .before .before .before .before .before .before .before .before .before .args in
-    Calls.write-past-end (a .board .now) (a .file) (a .offset) (a .bytes .now) (file (c .before .before .before)) (within (c .before)) (omega (arith, c .if3 .taken))
+    Calls.write-past-end (a .board .now) (a .file) (a .offset) (a .bytes .now) (a .plan .now) (file (c .before .before .before)) (within (c .before)) (omega (arith, c .if3 .taken))
 
 returns-5 : tie.Need-returns-5
 returns-5 c = let a = c .before .before .before .before .before .before .before .before .before .before .before .before .before .args in
-    Calls.write-nothing (a .board .now) (a .file) (a .offset) (a .bytes .now) (file (c .before .before .before .before)) (within (c .before .before)) (c .if4 .taken)
+    Calls.write-nothing (a .board .now) (a .file) (a .offset) (a .bytes .now) (a .plan .now) (file (c .before .before .before .before)) (within (c .before .before)) (c .if4 .taken)
 
 list-free-requires : tie.Need-list-free-requires
 list-free-requires c κs = let l = c .before in let t = l .before .before .before .before .before .before .before in

@@ -1,0 +1,99 @@
+-- A write: a single word, or growth and what follows it. The lent board decides which.
+use mathlib.Core.Path.{_≡_, refl, sym, _∙_}
+use mathlib.Core.Logic.{_≢_, inl, inr}
+use mathlib.Core.Bool.{false, and-false}
+use mathlib.Core.List.{List, [], _∷_}
+use Prim.Native.Nat.{ℕ, _+_, _-_, _/_, _%_, _^_, _≤_, _<_}
+use native.Mathlib.Omega.{arith}
+use lib.ListN.{length, getD}
+use borrow.Author.Tests.{le-leb, lt-leb, eq-eqb, ne-eqb, lt-ltb, le-ltb}
+use Rattle.model.specs.declared.WalkEnd.{WalkEnd}
+use Rattle.model.specs.declared.WalkEnd.the-variants.{Block, Hole}
+use Rattle.model.specs.Lists.{concat}
+use Rattle.model.specs.Layout.{house, files}
+use Rattle.model.specs.Tree.{span}
+use Rattle.model.specs.Board.{rootWalk, root, size, walkTo, rootBlocks, fileBlocks}
+use Rattle.model.specs.Store.{performed}
+use Rattle.model.specs.Plan.{Plan, plan, planEpochs, afterwards}
+use Rattle.model.specs.Change.{growth, singleBlock, singleWord, chosenWay, writePlan}
+use Rattle.model.proofs.Cases.{split, either}
+use Rattle.model.proofs.Descent.{walk-inside}
+use Rattle.model.proofs.Accepting.{facts}
+use Rattle.model.proofs.Formatted.{house-fits}
+use Rattle.model.proofs.Ranges.{file-range}
+use Rattle.model.proofs.GrownBoard.{single-past}
+use Rattle.building.specs.Taking.{taking}
+use Rattle.ways.specs.Planning.{PlanLaid, AddressOf}
+use Rattle.changing.specs.Asked.{File, growing, grownPlan, Growable}
+use Rattle.ways.specs.declared.Count.{Count}
+use Rattle.changing.proofs.Lengths.{size-is}
+use Rattle.changing.proofs.Grown as Grown
+
+-- a walk does not end twice
+hole-or-block : {w : WalkEnd} {k : ℕ} → w ≡ Hole → w ≡ Block k → ⊥
+hole-or-block p q = let z : _≡_ {A = ℕ} 0 1 = cc in omega arith
+
+-- ---- Whether a single word is written
+
+-- not where the bytes are in two
+pub two-words : (b : List ℕ) (f o e : ℕ) → o / 8 ≢ (e - 1) / 8 → singleBlock house b f o e ≡ Hole
+unfolding singleBlock
+two-words b f o e d = rw (ne-eqb (o / 8) ((e - 1) / 8) d, and-false)
+
+module _ {b : List ℕ} {f at s : ℕ} (a : AddressOf b f at) (es : s ≡ getD b (at + 1) 0) (o e : ℕ) where
+  -- nor past the size
+  pub past-size : s < e → singleBlock house b f o e ≡ Hole
+  unfolding singleBlock
+  past-size l = rw (lt-leb e (size house b f) (rw (size-is a es) at l))
+
+  -- else where its block exists
+  pub one-word : {x : ℕ} {w v : WalkEnd} → e ≤ s → o / 8 ≡ (e - 1) / 8 → x ≡ getD b at 0 → w ≡ rootWalk 8 b x s o → w ≡ v → singleBlock house b f o e ≡ v
+  unfolding singleBlock walkTo root
+  one-word l word ex ew ev =
+      let es′ : s ≡ size house b f = size-is a es in
+      rw (le-leb e (size house b f) (rw es′ at l), eq-eqb (o / 8) ((e - 1) / 8) word, ← ev, ew, ex, a .is, es′)
+
+-- the block where the walk ends is on the board
+pub block-small : {b : List ℕ} {f at s x k : ℕ} {w : WalkEnd} (o : ℕ) → File b f → AddressOf b f at → s ≡ getD b (at + 1) 0 → x ≡ getD b at 0
+    → w ≡ rootWalk 8 b x s o → w ≡ Block k → k < 2 ^ 61
+unfolding rootWalk files fileBlocks rootBlocks root
+block-small {b} {f} {k = k} o file a es ex ew there =
+    let ok = facts house house-fits b (file .board) in
+    let r : ℕ = root house b f in
+    let walked : rootWalk 8 b r (size house b f) o ≡ Block k = rw (ex, a .is, size-is a es) at (sym ew ∙ there) in
+    elim (split (span 8 (r % 8)) o) [
+      | inl past ↦ absurd (hole-or-block refl (rw (le-ltb o (span 8 (r % 8)) past) at walked))
+      | inr l ↦
+          let in-file = walk-inside 8 b (omega arith) (r % 8) (r / 8) (size house b f) o k l (rw (lt-ltb o (span 8 (r % 8)) l) at walked) in
+          omega (arith, file-range house house-fits b ok f k (file .file) in-file .1, ok .sizes .whole, ok .sizes .below)
+    ]
+
+-- ---- The plan
+
+write-is : (fresh : ℕ → ℕ) (b : List ℕ) (f o : ℕ) (new : List ℕ) → 0 < length new
+    → let e : ℕ = o + length new in let p : Plan = growth house fresh b f e in let grown : List ℕ = performed b (concat (planEpochs (p .steps))) in
+    writePlan house fresh b f o new ≡ afterwards p (chosenWay house fresh grown f (singleBlock house grown f o e) o new (p .taken))
+unfolding writePlan
+write-is fresh b f o [] l = absurd (omega arith)
+write-is fresh b f o (x ∷ new) l = refl
+
+module _ {b : List ℕ} {f o : ℕ} {new table : List ℕ} (g : Growable b f o new table) where
+  abbrev e : ℕ
+  e = o + length new
+
+  pub as-grown : {slice slice′ : List ℕ} {r : Count} → singleBlock house b f o e ≡ Hole → PlanLaid slice 0 (grownPlan (taking table) b f o new) slice′ r
+      → PlanLaid slice 0 (writePlan house (taking table) b f o new) slice′ r
+  unfolding grownPlan
+  as-grown hole w = rw (write-is (taking table) b f o new (g .asked .some), Grown.left-grown g .single, hole) w
+
+  -- growth comes before no single word
+  spanned : {k : ℕ} → singleBlock house b f o e ≡ Block k → growing b f e ≡ false
+  spanned single = elim (either (growing b f e)) [
+    | inl t ↦ absurd (hole-or-block (single-past house b f o e (omega (arith, g .asked .some)) (Grown.past-span b f e t)) single)
+    | inr t ↦ t
+  ]
+
+  pub as-single : {slice slice′ : List ℕ} {r : Count} {k : ℕ} → singleBlock house b f o e ≡ Block k → PlanLaid slice 0 (singleWord house b 0 k o new 0) slice′ r
+      → PlanLaid slice 0 (writePlan house (taking table) b f o new) slice′ r
+  unfolding plan planEpochs concat performed afterwards chosenWay singleWord
+  as-single single w = rw (write-is (taking table) b f o new (g .asked .some), Grown.no-growth g (spanned single), single) w

@@ -1,0 +1,146 @@
+-- The board that growth leaves: the inode stands where it stood, the tree spans the write, and a write to a single word is one there if it is one on the lent
+-- board. Growth comes before no such write: all its bytes would lie past the old tree's span.
+use mathlib.Core.Path.{_≡_, refl, sym, _∙_}
+use mathlib.Core.Logic.{inl, inr}
+use mathlib.Core.Bool.{Bool, _&&_}
+use mathlib.Core.List.{List, []}
+use Prim.Native.Nat.{ℕ, zero, suc, _-_, _/_, _%_, _≤_, _<_}
+use native.Mathlib.Omega.{arith}
+use native.Mathlib.Nat.{le-div-iff-mul-le}
+use lib.ListN.{length}
+use lib.Dec.{T, leb, eqb}
+use borrow.Author.Tests.{lt-ltb, le-ltb, eqb-true}
+use Rattle.model.specs.declared.WalkEnd.the-variants.{Hole}
+use Rattle.model.specs.Lists.{concat}
+use Rattle.model.specs.Layout.{Layout, Fits, files}
+use Rattle.model.specs.Tree.{span, least, walk}
+use Rattle.model.specs.Board.{rootWalk, greatest, inodeBlock, rootAddress, root, size, walkTo, accepted}
+use Rattle.model.specs.Store.{performed}
+use Rattle.model.specs.Plan.{plan, planEpochs}
+use Rattle.model.specs.Fresh.{Page}
+use Rattle.model.specs.Change.{levelPage, levelBelow, levels, levelTop, growthTo, growth, singleBlock}
+use Rattle.model.proofs.Cases.{split, either, true-right}
+use Rattle.model.proofs.Spans.{span-power, span-pos, span-mono, child, least-reaches, least-within, least-least}
+use Rattle.model.proofs.Perform.{length-tabulate}
+use Rattle.model.proofs.Trees.{walk-null}
+use Rattle.model.proofs.Built.{held}
+use Rattle.model.proofs.Grown.{other-block, last-level}
+use Rattle.model.proofs.Shown.{words-pos}
+use Rattle.model.proofs.Accepting.{facts}
+use Rattle.model.proofs.Supplied.{Supply}
+use Rattle.model.proofs.Steps.{committed}
+use Rattle.model.proofs.GrowthWay.{growthStep, growth-performed, growth-grows, growth-empty, growth-spanned, growth-size, growth-length, growth-inode, growth-address, growth-height, growth-reaches, growth-top, growth-held}
+
+-- c is the board that growth leaves of b, for a write to file f from o up to e
+pub record GrownBoard (g : Layout) (b c : List ℕ) (f o e : ℕ) : Type 0 where
+  pub lengths : length c ≡ length b
+  pub sizes : size g c f ≡ size g b f
+  pub address : rootAddress g c f ≡ rootAddress g b f
+  pub inode : inodeBlock g c ≡ inodeBlock g b
+  pub height : 0 < size g c f → root g c f % g .words ≤ g .height
+  pub spans : 0 < size g c f → e ≤ span (g .words) (root g c f % g .words)
+  pub single : singleBlock g c f o e ≡ singleBlock g b f o e
+
+-- a span is whole words, so if one byte of a word lies past it, all do
+word-past : (W h o e : ℕ) → o < e → o / 8 ≡ (e - 1) / 8 → span W h < e → span W h ≤ o
+word-past W h o e some word l = omega (arith, span-power W h)
+
+module _ (g : Layout) (b : List ℕ) (f o e : ℕ) where
+  -- no single word is written where its first byte is in a hole
+  single-hole : (o / 8 ≡ (e - 1) / 8 → walkTo g b f o ≡ Hole) → singleBlock g b f o e ≡ Hole
+  unfolding singleBlock
+  single-hole hole =
+      let within : Bool = leb e (size g b f) in
+      let word : Bool = eqb (o / 8) ((e - 1) / 8) in
+      elim (either (within && word)) [ inl u ↦ rw (u, hole (eqb-true (o / 8) ((e - 1) / 8) (true-right within word u))) | inr u ↦ rw u ]
+
+  -- so none that ends past the tree's span
+  pub single-past : o < e → span (g .words) (root g b f % g .words) < e → singleBlock g b f o e ≡ Hole
+  unfolding walkTo rootWalk
+  single-past some more =
+      let s : ℕ = span (g .words) (root g b f % g .words) in
+      single-hole (λ word. rw (le-ltb o s (word-past (g .words) (root g b f % g .words) o e some word more)))
+
+-- ---- The top of the grown tree
+
+module _ (W : ℕ) (pos : 0 < W) (b : List ℕ) (fresh : ℕ → ℕ) (lim : ℕ) (nonzero : (i : ℕ) → i < lim → 0 < fresh i) where
+  -- past the span of the height below, its pointers are null
+  top-hole : (h k d n i : ℕ) → 0 < d → length (levels W fresh k d) ≤ lim → held W fresh b (levels W fresh k d) 0 → span W h ≤ i → i < span W (suc h)
+      → walk W b (suc h) (levelTop fresh k d) n i ≡ Hole
+  unfolding levels levelTop levelBelow walk
+  top-hole h k zero n i some room g past l = absurd (omega arith)
+  top-hole h zero (suc d) n i some room g past l = walk-null W b (suc h) n i
+  top-hole h (suc k) (suc d) n i some room g past l =
+      let f : ℕ → Page = λ j. levelPage W (levelBelow fresh (suc k) j) in
+      let there : 0 < fresh d = nonzero d (omega (arith, room, length-tabulate (suc d) f)) in
+      let not-first : 0 < i / span W h = le-div-iff-mul-le (span-pos W pos h) .1 (omega arith) in
+      rw (other-block W pos b h (levelBelow fresh (suc k) d) (fresh d) n there (last-level W fresh pos b d f g) (i / span W h) not-first (child W pos h i l .which))
+      (walk-null W b h _ _)
+
+  -- the same of any height above 0
+  top-past : (h k d n i : ℕ) → 0 < d → length (levels W fresh k d) ≤ lim → held W fresh b (levels W fresh k d) 0 → ((x : ℕ) → x < h → span W x ≤ i) → 0 < h → i < span W h
+      → walk W b h (levelTop fresh k d) n i ≡ Hole
+  top-past zero k d n i some room g past high l = absurd (omega arith)
+  top-past (suc h) k d n i some room g past high l = top-hole h k d n i some room g (past h (omega arith)) l
+
+-- ---- The board
+
+module _ (g : Layout) (fit : Fits g) (b : List ℕ) (t : T (accepted g b)) (f : ℕ) (f-lt : f < files g) (fresh : ℕ → ℕ) (lim : ℕ) (supply : Supply g b fresh 0 lim)
+    (o e : ℕ) (some : o < e) (most : e ≤ greatest g) where
+  -- no growth
+  same-board : (0 < size g b f → e ≤ span (g .words) (root g b f % g .words)) → GrownBoard g b (performed b (concat (planEpochs (plan [] 0 .steps)))) f o e
+  unfolding plan planEpochs concat performed
+  same-board reach = record {
+    lengths = refl;
+    sizes = refl;
+    address = refl;
+    inode = refl;
+    height = facts g fit b t .low f f-lt;
+    spans = reach;
+    single = refl;
+  }
+
+  module _ (live : 0 < size g b f) (more : span (g .words) (root g b f % g .words) < e) where
+    abbrev h : ℕ
+    h = least (g .words) (g .height) e
+
+    abbrev W : ℕ
+    W = g .words
+
+    module _ (room : growthTo g fresh b f h .taken ≤ lim) where
+      abbrev c : List ℕ
+      c = committed b (growthStep g fresh b f h)
+
+      -- where all bytes are in one word, the first is in a hole
+      new-hole : o / 8 ≡ (e - 1) / 8 → walkTo g c f o ≡ Hole
+      unfolding walkTo rootWalk greatest growthTo plan
+      new-hole word =
+          let pos : 0 < W = words-pos g fit in
+          let reaches : e ≤ span W h = least-reaches W pos (g .height) e most in
+          let higher : root g b f % W < h = elim (split h (root g b f % W)) [ inl u ↦ absurd (omega (arith, span-mono W pos h (root g b f % W) u)) | inr u ↦ u ] in
+          let high : root g c f % W ≡ h = growth-height g fit b t f f-lt live fresh lim supply e most more room in
+          let top : root g c f / W ≡ levelTop fresh (root g b f / W) (h - root g b f % W) = growth-top g fit b t f f-lt live fresh lim supply e most more room in
+          rw (high, top, lt-ltb o (span W h) (omega (arith, some, reaches)))
+          (top-past W pos c fresh lim (supply .nonzero) h (root g b f / W) (h - root g b f % W) (size g c f) o (omega arith) room
+          (growth-held g fit b t f f-lt live fresh lim supply e most more room)
+          (λ x u. word-past W x o e some word (least-least W pos (g .height) e x u)) (omega arith) (omega (arith, some, reaches)))
+
+      larger-board : GrownBoard g b (performed b (concat (planEpochs (growthTo g fresh b f h .steps)))) f o e
+      larger-board = rw (growth-performed g fresh b f h) (record {
+        lengths = growth-length g fit b t f f-lt live fresh lim supply e most more room;
+        sizes = growth-size g fit b t f f-lt live fresh lim supply e most more room;
+        address = growth-address g fit b t f f-lt live fresh lim supply e most more room;
+        inode = growth-inode g fit b t f f-lt live fresh lim supply e most more room;
+        height = λ l. rw (growth-height g fit b t f f-lt live fresh lim supply e most more room) (least-within W (words-pos g fit) (g .height) e);
+        spans = λ l. growth-reaches g fit b t f f-lt live fresh lim supply e most more room;
+        single = single-hole g c f o e new-hole ∙ sym (single-past g b f o e some more);
+      })
+
+  pub grown-board : growth g fresh b f e .taken ≤ lim → GrownBoard g b (performed b (concat (planEpochs (growth g fresh b f e .steps)))) f o e
+  grown-board room = elim (split (size g b f) 0) [
+    | inl z ↦ let none : size g b f ≡ 0 = omega arith in rw (growth-empty g fresh b f e none) (same-board (λ l. absurd (omega arith)))
+    | inr l ↦ elim (split e (span (g .words) (root g b f % g .words))) [
+      | inl u ↦ rw (growth-spanned g fresh b f e u) (same-board (λ z. u))
+      | inr m ↦ rw (growth-grows g fresh b f e l m) (larger-board l m (rw (growth-grows g fresh b f e l m) at room))
+    ]
+  ]
