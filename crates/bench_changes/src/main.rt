@@ -49,11 +49,9 @@ fn e1(board: &mut [u64]) {
 
 fn e2(board: &mut [u64]) {
     formatted(board);
+    let mut short = [0u64; 21];
+    line(b"E2 in 21 words", write(board, 0, 0, b"AB", &mut short));
     let mut plan = [0u64; 22];
-    line(
-        b"E2 in 21 words",
-        write(board, 0, 0, b"AB", &mut plan[..21]),
-    );
     line(b"E2 in 22 words", write(board, 0, 0, b"AB", &mut plan));
     written(b"E2 write 65 66 at 0", board, 0, b"AB");
     line(b"E2 free", free_count(board));
@@ -72,11 +70,15 @@ fn e4(board: &mut [u64]) {
     line(b"E4 free", free_count(board));
 }
 
-fn e5_e6(board: &mut [u64]) {
+fn e5(board: &mut [u64]) {
     formatted(board);
     written(b"E5 first E2", board, 0, b"AB");
     lengthened(b"E5 length 0", board, 0);
     line(b"E5 free", free_count(board));
+}
+
+// On E5's board.
+fn e6(board: &mut [u64]) {
     lengthened(b"E6 length 1", board, 1);
     let mut out = [9u8; 2];
     line(b"E6 read", read(board, 0, 0, &mut out));
@@ -116,26 +118,30 @@ fn e9(board: &mut [u64]) {
 fn e10(board: &mut [u64]) {
     formatted(board);
     written(b"E10 first E2", board, 0, b"AB");
+    e10_past(board);
+    written(b"E10 write of 67 at 2, the size", board, 2, b"C");
+}
+
+fn e10_past(board: &mut [u64]) {
     written(b"E10 write of no bytes at 2, the size", board, 2, b"");
     written(b"E10 write of no bytes at 3", board, 3, b"");
     written(b"E10 write of 67 at 3", board, 3, b"C");
-    written(
-        b"E10 write of 67 at 2^64 - 1",
-        board,
-        18446744073709551615,
-        b"C",
-    );
-    written(b"E10 write of 67 at 2, the size", board, 2, b"C");
+    let last = 18446744073709551615;
+    written(b"E10 write of 67 at 2^64 - 1", board, last, b"C");
 }
 
 fn e12(board: &mut [u64]) {
     formatted(board);
     lengthened(b"E12 length 32769", board, 32769);
     lengthened(b"E12 length 32768", board, 32768);
+    e12_past(board);
+    written(b"E12 write of one byte at 32767", board, 32767, b"C");
+}
+
+fn e12_past(board: &mut [u64]) {
     written(b"E12 write of two bytes at 32767", board, 32767, b"CD");
     written(b"E12 write of one byte at 32768", board, 32768, b"C");
     written(b"E12 write of no bytes at 32768", board, 32768, b"");
-    written(b"E12 write of one byte at 32767", board, 32767, b"C");
 }
 
 fn main() {
@@ -146,7 +152,8 @@ fn main() {
     e2(&mut board);
     e3(&mut board);
     e4(&mut board);
-    e5_e6(&mut board);
+    e5(&mut board);
+    e6(&mut board);
     e7(&mut board);
     e8(&mut board);
     e9(&mut board);

@@ -52,11 +52,15 @@ fn day_begins(board: &mut [u64], plan: &mut [u64]) {
     perform_all(board, plan, answer);
 }
 
-// A table of three champions, made longer and shorter.
+// A table of three champions.
 fn table(board: &mut [u64], plan: &mut [u64]) {
-    let first = write(board, SCORES, 0, b"AAABBBCCC", plan);
-    planned(b"write AAABBBCCC", first, plan);
-    perform_all(board, plan, first);
+    let answer = write(board, SCORES, 0, b"AAABBBCCC", plan);
+    planned(b"write AAABBBCCC", answer, plan);
+    perform_all(board, plan, answer);
+}
+
+// The table made longer, and shorter.
+fn lengths(board: &mut [u64], plan: &mut [u64]) {
     let longer = set_length(board, SCORES, 12, plan);
     planned(b"length 12", longer, plan);
     perform_all(board, plan, longer);
@@ -80,5 +84,6 @@ fn main() {
     let mut plan = [0u64; 256];
     day_begins(&mut board, &mut plan);
     table(&mut board, &mut plan);
+    lengths(&mut board, &mut plan);
     game_ends(&mut board, &mut plan);
 }
