@@ -198,10 +198,10 @@ fn build<S: Sink>(view: &View, sink: &mut S, h: usize, k: u64, n: u64, o: u64, n
         for j in 0..8 {
             let first = j * s;
             let own = part(new, s, j, o);
-            let x = view.link(k, j);
+            let x = if first < n { view.link(k, j) } else { 0 };
             if !own.is_empty() {
                 words[j as usize] = 8 * build(view, sink, h - 1, x / 8, n.saturating_sub(first), o.saturating_sub(first), own, taken);
-            } else if first < n {
+            } else {
                 words[j as usize] = x;
             }
         }
