@@ -57,22 +57,27 @@ fn e2(board: &mut [u64]) {
     line(b"E2 free", free_count(board));
 }
 
-fn e3(board: &mut [u64]) {
+// E2's board.
+fn e2_board(board: &mut [u64]) {
     formatted(board);
-    written(b"E3 first E2", board, 0, b"AB");
+    let mut plan = [0u64; 22];
+    let answer = write(board, 0, 0, b"AB", &mut plan);
+    performed(board, &plan, answer);
+}
+
+fn e3(board: &mut [u64]) {
+    e2_board(board);
     written(b"E3 write 90 at 0", board, 0, b"Z");
 }
 
 fn e4(board: &mut [u64]) {
-    formatted(board);
-    written(b"E4 first E2", board, 0, b"AB");
+    e2_board(board);
     written(b"E4 write 67 68 at 1", board, 1, b"CD");
     line(b"E4 free", free_count(board));
 }
 
 fn e5(board: &mut [u64]) {
-    formatted(board);
-    written(b"E5 first E2", board, 0, b"AB");
+    e2_board(board);
     lengthened(b"E5 length 0", board, 0);
     line(b"E5 free", free_count(board));
 }
@@ -86,14 +91,12 @@ fn e6(board: &mut [u64]) {
 }
 
 fn e7(board: &mut [u64]) {
-    formatted(board);
-    written(b"E7 first E2", board, 0, b"AB");
+    e2_board(board);
     lengthened(b"E7 length 10", board, 10);
 }
 
 fn e8(board: &mut [u64]) {
-    formatted(board);
-    written(b"E8 first E2", board, 0, b"AB");
+    e2_board(board);
     lengthened(b"E8 length 100", board, 100);
     written(b"E8 write 7 at 99", board, 99, b"\x07");
     let mut out = [9u8; 4];
@@ -116,8 +119,7 @@ fn e9(board: &mut [u64]) {
 }
 
 fn e10(board: &mut [u64]) {
-    formatted(board);
-    written(b"E10 first E2", board, 0, b"AB");
+    e2_board(board);
     e10_past(board);
     written(b"E10 write of 67 at 2, the size", board, 2, b"C");
 }

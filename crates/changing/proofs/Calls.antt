@@ -1,80 +1,40 @@
--- The ways out of the calls that change a file, and of the questions they ask first.
+-- The ways out of the calls that change a file.
 use mathlib.Core.Path.{_≡_, refl, sym, ap, _∙_}
 use mathlib.Core.Logic.{inl, inr}
-use mathlib.Core.Bool.{Bool, true, false, _&&_}
+use mathlib.Core.Bool.{Bool, _&&_}
 use mathlib.Core.List.{List, [], _∷_, _++_}
-use Prim.Native.Nat.{ℕ, zero, suc, _+_, _/_, _%_, _≤_, _<_}
+use Prim.Native.Nat.{ℕ, suc, _+_, _/_, _≤_, _<_}
 use native.Mathlib.Omega.{arith}
-use lib.ListN.{length, getD}
-use lib.Dec.{T, ltb, lit<}
-use borrow.Author.Tests.{ltb-true, lt-ltb, le-ltb}
-use Rattle.model.specs.declared.Fault.{Fault}
-use Rattle.model.specs.declared.Fault.the-variants.{Offset, End, FreeBlocks, PlanLength}
+use lib.ListN.{length}
+use lib.Dec.{T, ltb}
+use borrow.Author.Tests.{lt-ltb, le-ltb}
 use Rattle.model.specs.declared.Answer.{Answer}
 use Rattle.model.specs.declared.Answer.the-variants.{Done, Refused}
+use Rattle.model.specs.declared.Fault.{Fault}
+use Rattle.model.specs.declared.Fault.the-variants.{Offset, End, FreeBlocks, PlanLength}
 use Rattle.model.specs.Lists.{concat}
 use Rattle.model.specs.Layout.{house, files}
-use Rattle.model.specs.Tree.{live, span, least}
-use Rattle.model.specs.Board.{greatest, sizeAddress, root, size, wordCountSound, trailerSound, treesSound, accepted, free}
+use Rattle.model.specs.Tree.{span}
+use Rattle.model.specs.Board.{greatest, size, wordCountSound, trailerSound, treesSound, accepted, free}
 use Rattle.model.specs.Store.{Store, performed, fenced, laid}
 use Rattle.model.specs.Plan.{Plan, plan, pairs, planEpochs, afterwards}
-use Rattle.model.specs.Change.{growthTo, growth, singleBlock, writePlan, lengthPlan}
+use Rattle.model.specs.Change.{growth, singleBlock, writePlan, lengthPlan}
 use Rattle.model.specs.Answers.{Faults, answered}
 use Rattle.model.specs.Calls.{wordCountFault, boardFaults, fileFaults, checkAnswer, planned, lowest, writeFaults, write, setLength}
-use Rattle.model.proofs.Cases.{split, true-right, is-true, and-left, and-right}
-use Rattle.model.proofs.Spans.{least-within, least-above}
+use Rattle.model.proofs.Cases.{split, is-true, and-left, and-right}
+use Rattle.model.proofs.Refusals.{first-refused, first-done}
 use Rattle.model.proofs.Accepting.{facts}
 use Rattle.model.proofs.Formatted.{house-fits}
-use Rattle.model.proofs.Refusals.{first-refused, first-done}
 use Rattle.model.proofs.Ways.{taken-from}
+use Rattle.ways.specs.declared.Count.{Count}
 use Rattle.boards.proofs.Surveying.{sound}
 use Rattle.reading.proofs.Answering.{file-refused, file-none, file-there}
-use Rattle.trees.specs.Trees.{Spanned}
 use Rattle.plans.specs.Laying.{Laid, PlanResult}
-use Rattle.building.specs.Taking.{taking}
-use Rattle.ways.specs.Planning.{AddressOf, PlanLaid}
-use Rattle.ways.specs.declared.Count.{Count}
-use Rattle.changing.specs.Asked.{growing, File, Stocked}
-use Rattle.plans.proofs.Refusing.{turned, too-short, long-enough}
 use Rattle.plans.proofs.Laying.{laid-none}
-
--- ---- Whether a tree grows
-
-live-some : (n : ℕ) → (n ≡ 0 → ⊥) → live n ≡ true
-unfolding live
-live-some zero d = absurd (d refl)
-live-some (suc n) d = refl
-
-module _ {b : List ℕ} {f a w : ℕ} (at : AddressOf b f a) (ew : w ≡ getD b (a + 1) 0) where
-  size-is : size house b f ≡ w
-  unfolding size sizeAddress
-  size-is = sym (ew ∙ rw (at .is))
-
-  pub empty-stays : (e : ℕ) → w ≡ 0 → false ≡ growing b f e
-  unfolding growing live
-  empty-stays e z = let none : size house b f ≡ 0 = size-is ∙ z in rw none
-
-  pub spans-less : {r s : ℕ} (e : ℕ) → (w ≡ 0 → ⊥) → r ≡ getD b a 0 → Spanned (r % 8) s → ltb s e ≡ growing b f e
-  unfolding growing root
-  spans-less e d er sp = rw (live-some (size house b f) (λ z. d (sym size-is ∙ z)), sp .is, er, at .is)
-
--- ---- What growth takes
-
-module _ (b : List ℕ) (f e : ℕ) {t : Bool} (et : t ≡ growing b f e) where
-  pub growth-none : (fresh : ℕ → ℕ) → t ≡ false → 0 ≡ growth house fresh b f e .taken
-  unfolding growing growth plan
-  growth-none fresh z = rw (← et, z)
-
-  module _ (z : t ≡ true) {h : ℕ} (eh : h ≡ least 8 3 e) where
-    pub grown-taken : {plan₀ plan₁ : List ℕ} {r : Count} (fresh : ℕ → ℕ) → PlanLaid plan₀ 0 (growthTo house fresh b f h) plan₁ r → r .taken ≡ growth house fresh b f e .taken
-    unfolding growing growth
-    grown-taken fresh q = q .taken ∙ rw (← et, z, eh)
-
-    pub grown-height : e ≤ 32768 → (root house b f % 8 ≤ h) × (h ≤ 3)
-    unfolding growing span
-    grown-height l =
-        let more : span 8 (root house b f % 8) < e = ltb-true _ _ (true-right (live (size house b f)) (ltb (span 8 (root house b f % 8)) e) (sym et ∙ z)) in
-        rw eh (least-above 8 (lit< tt) 3 e (root house b f % 8) l more, least-within 8 (lit< tt) 3 e)
+use Rattle.plans.proofs.Refusing.{turned, too-short, long-enough}
+use Rattle.building.specs.Taking.{taking}
+use Rattle.ways.specs.Planning.{PlanLaid}
+use Rattle.planning.specs.Asked.{File, Stocked}
 
 -- the plan takes at least what growth takes
 growth-first : (fresh : ℕ → ℕ) (b : List ℕ) (f o : ℕ) (new : List ℕ) → 0 < length new

@@ -4,122 +4,15 @@ use boards::last;
 use boards::survey::survey;
 use model::Answer;
 use model::Fault;
-use model::WalkEnd;
-use plans::barrier;
-use plans::commit;
-use plans::pair;
+use planning::growth_blocks;
+use planning::list_free;
+use planning::plan_length;
+use planning::plan_write;
 use reading::check_file;
-use tails::in_place;
-use trees::root_walk;
-use trees::span;
-use ways::Count;
-use ways::grow;
-use ways::least_height;
-use ways::root_address;
-use ways::single;
-use ways::way;
-use words::put;
-use words::word;
-ghost use mathlib.Core.Path.{_≡_};
-ghost use Prim.Native.Nat.{_+_, _-_, _≤_, _<_};
-ghost use lib.ListN.{length};
 ghost use Rattle.model.specs.Layout.{house};
-ghost use Rattle.model.specs.Plan.{pairs};
-ghost use Rattle.model.specs.Change.{growth, writePlan, lengthPlan};
 ghost use Rattle.model.specs.Calls.{write, setLength};
-ghost use Rattle.plans.specs.Laying.{Laid, PlanResult};
-ghost use Rattle.building.specs.Taking.{taking, Blocks};
-ghost use Rattle.ways.specs.Planning.{PlanLaid};
-ghost use Rattle.changing.specs.Asked.{Listed, File, growing, grownPlan, Growable, Stocked};
-
-// Lists the blocks from 1 to top - 1 that are not marked, at the front of a table. Answers how many there are.
-fn list_free(marks: &[u64], top: u64, table: &mut [u64]) -> u64
-    requires { ⌜ top ≤ length (now table) ⌝ }
-    ensures { λ r. ⌜ Listed (now (marks .entry)) top (now (table .entry)) r (now (table .exit)) ⌝ }
-{
-    let mut count = 0;
-    let mut k = 1;
-    while k < top {
-        if word(marks, k) == 0 {
-            put(table, count, k);
-            count += 1;
-        }
-        k += 1;
-    }
-    count
-}
-
-// Whether a write that ends at e makes a file's tree grow first.
-fn grows(board: &[u64], file: u64, e: u64) -> bool
-    ensures { λ r. ⌜ r ≡ growing (now (board .entry)) file e ⌝ }
-{
-    let at = root_address(board, file);
-    if word(board, at + 1) == 0 {
-        return false;
-    }
-    span(word(board, at) % 8) < e
-}
-
-// How many blocks growth takes.
-fn growth_blocks(board: &[u64], free: &[u64], file: u64, e: u64) -> u64
-    requires { ⌜ File (now board) file × Blocks (now free) × (e ≤ 32768) ⌝ }
-    ensures { λ r. ⌜ r ≡ growth house (taking (now (free .entry))) (now (board .entry)) file e .taken ⌝ }
-{
-    if !grows(board, file, e) {
-        return 0;
-    }
-    let mut none = [0u64; 0];
-    grow(board, free, &mut none, file, least_height(e)).taken
-}
-
-// Plans growth, where it is due, and what follows on the grown board.
-fn plan_grown(board: &[u64], free: &[u64], plan: &mut [u64], file: u64, o: u64, new: &[u8]) -> Count
-    requires { ⌜ Growable (now board) file o (now new) (now free) ⌝ }
-    ensures { λ r. ⌜ PlanLaid (now (plan .entry)) 0 (grownPlan (taking (now (free .entry))) (now (board .entry)) file o (now (new .entry))) (now (plan .exit)) r ⌝ }
-{
-    let e = o + new.len() as u64;
-    let mut stores = [0u64; 52];
-    if !grows(board, file, e) {
-        return way(board, &stores[..0], free, plan, 0, file, o, new, 0);
-    }
-    let h = least_height(e);
-    let count = grow(board, free, &mut stores, file, h);
-    grow(board, free, plan, file, h);
-    barrier(plan, count.pairs);
-    let end = 2 * count.pairs as usize;
-    let base = count.pairs + 1 - 8 * count.taken;
-    way(
-        board,
-        &stores[..end],
-        free,
-        plan,
-        base,
-        file,
-        o,
-        new,
-        count.taken,
-    )
-}
-
-// Plans a write. A single word is never one that growth comes before, so the lent board decides it.
-fn plan_write(board: &[u64], free: &[u64], plan: &mut [u64], file: u64, o: u64, new: &[u8]) -> Count
-    requires { ⌜ Growable (now board) file o (now new) (now free) ⌝ }
-    ensures { λ r. ⌜ PlanLaid (now (plan .entry)) 0 (writePlan house (taking (now (free .entry))) (now (board .entry)) file o (now (new .entry))) (now (plan .exit)) r ⌝ }
-{
-    let at = root_address(board, file);
-    let s = word(board, at + 1);
-    let e = o + new.len() as u64;
-    if s < e {
-        return plan_grown(board, free, plan, file, o, new);
-    }
-    if o / 8 != (e - 1) / 8 {
-        return plan_grown(board, free, plan, file, o, new);
-    }
-    let WalkEnd::Block(k) = root_walk(board, word(board, at), s, o) else {
-        return plan_grown(board, free, plan, file, o, new);
-    };
-    single(board, plan, k, o, new)
-}
+ghost use Rattle.plans.specs.Laying.{PlanResult};
+ghost use Rattle.planning.specs.Asked.{Stocked};
 
 // Write, where no refusal up to 6 turns it away and there is a byte to write: `free` lists the free blocks, `count` of them.
 fn write_some(
@@ -173,43 +66,6 @@ pub fn write(board: &[u64], file: u64, offset: u64, bytes: &[u8], plan: &mut [u6
     let mut free = [0u64; 1024];
     let count = list_free(&marks, last(board), &mut free);
     write_some(board, &free, count, plan, file, offset, bytes)
-}
-
-// Plans a length change to n. Answers how many pairs there are.
-fn plan_length(board: &[u64], plan: &mut [u64], file: u64, n: u64) -> u64
-    requires { ⌜ File (now board) file × (n ≤ 32768) ⌝ }
-    ensures { λ r. ⌜ Laid (now (plan .entry)) 0 (pairs (lengthPlan house (now (board .entry)) file n)) (now (plan .exit)) r ⌝ }
-{
-    let at = root_address(board, file);
-    let root = word(board, at);
-    let s = word(board, at + 1);
-    if n == s {
-        return 0;
-    }
-    if n < s {
-        return commit(plan, 0, 0, at + 1, n);
-    }
-    if s == 0 {
-        pair(plan, 0, at, 0);
-        return commit(plan, 0, 1, at + 1, n);
-    }
-    let zeros = [0u8; 32768];
-    let none = [0u64; 0];
-    let len = (n - s) as usize;
-    let q = in_place(
-        board,
-        &none,
-        &none,
-        plan,
-        0,
-        root % 8,
-        root / 8,
-        s,
-        &zeros[..len],
-        0,
-        at,
-    );
-    commit(plan, 0, q, at + 1, n)
 }
 
 // Length change: plans `length` as a file's size. Answers the pair count, or refused 1, 2, 3, 4, 6, 8.

@@ -1,15 +1,14 @@
 -- The lines of files, of a board and of an image.
 use mathlib.Core.Path.{_≡_, refl, sym, ap, _∙_}
 use mathlib.Core.Logic.{inl, inr}
-use mathlib.Core.Bool.{true}
 use mathlib.Core.List.{List, [], _++_}
-use Prim.Native.Nat.{ℕ, zero, suc, _+_, _*_, _/_, _%_, _≤_}
+use Prim.Native.Nat.{ℕ, _+_, _*_, _/_, _%_, _≤_}
 use native.Mathlib.Omega.{arith}
 use lib.ListN.{length, take, drop}
 use lib.Seq.{sets-eq, take-at}
-use Rattle.model.specs.declared.Fault.{Fault}
 use Rattle.model.specs.declared.Answer.{Answer}
 use Rattle.model.specs.declared.Answer.the-variants.{Done, Refused}
+use Rattle.model.specs.declared.Fault.{Fault}
 use Rattle.model.specs.Lists.{joined}
 use Rattle.model.specs.Layout.{house, files}
 use Rattle.model.specs.Tree.{live}
@@ -19,16 +18,12 @@ use Rattle.model.specs.Calls.{wordCountFault, boardFaults, checkAnswer, freeCou
 use Rattle.model.specs.Lister.{field, line, fileLine, boardLines, answerLines, listing}
 use Rattle.model.specs.Lister.{word-blocks, word-free, word-file, word-size, word-height, word-data, word-refused}
 use Rattle.model.proofs.Refusals.{same-refused, same-done}
+use Rattle.model.proofs.GrowthWay.{live-some}
 use Rattle.trees.specs.Trees.{Counted}
 use Rattle.images.specs.Images.{boardOf, Loaded}
 use Rattle.images.proofs.Boards.{read-as, check-answer}
 use Rattle.listing.specs.Wrote.{Wrote, Listed}
 use Rattle.listing.proofs.Writing.{none, both, loose, more}
-
-live-some : (n : ℕ) → (n ≡ 0 → ⊥) → live n ≡ true
-unfolding live
-live-some zero h = absurd (h refl)
-live-some (suc n) h = refl
 
 -- the line of one file
 module _ (b : List ℕ) (f : ℕ) {n p : ℕ} {out : List ℕ} (es : n ≡ size house b f) where
@@ -40,7 +35,7 @@ module _ (b : List ℕ) (f : ℕ) {n p : ℕ} {out : List ℕ} (es : n ≡ size 
       Wrote 106 (line word-file f (field word-size n ++ field word-height (w % 8) ++ field word-data d)) p out r out′ →
       Wrote 106 (fileLine house b f) p out r out′
   unfolding fileLine
-  one-line z er c a = rw (← es, live-some n z, ← er, ← c .is) a
+  one-line z er c a = rw (← es, live-some n (omega (arith, z)), ← er, ← c .is) a
 
 -- the lines of the first f files
 module _ (b : List ℕ) {p : ℕ} {out : List ℕ} where

@@ -55,7 +55,7 @@ module _ (g : Layout) (fresh : ℕ → ℕ) (b : List ℕ) (f h : ℕ) where
   unfolding growthTo plan allCommitted
   growth-performed = performed-steps b (growthStep ∷ [])
 
-live-some : (n : ℕ) → 0 < n → live n ≡ true
+pub live-some : (n : ℕ) → 0 < n → live n ≡ true
 unfolding live
 live-some zero l = absurd (omega arith)
 live-some (suc n) l = refl

@@ -15,7 +15,8 @@ use Rattle.plans.proofs.Laying as Laying
 use Rattle.building.specs.Taking.{splicedByte}
 use Rattle.ways.specs.Planning.{PlanLaid}
 
-step-plan : (ss : List Store) (a v c : ℕ) → pairs (plan (step ss a v ∷ []) c) ≡ ss ++ closing (length ss) (store a v)
+-- the pairs of such a plan
+pub step-plan : (ss : List Store) (a v c : ℕ) → pairs (plan (step ss a v ∷ []) c) ≡ ss ++ closing (length ss) (store a v)
 unfolding pairs plan planEpochs step
 step-plan ss a v c = rw append-nil (Laying.step-pairs ss (store a v))
 

@@ -1,13 +1,13 @@
-use borrow.Author.Needs.{needs}
 use mathlib.Core.Path.{refl}
 use Prim.Native.Nat.{_≤_}
 use native.Mathlib.Omega.{arith}
+use borrow.Author.Needs.{needs}
 use Rattle.model.specs.Layout.{house}
 use Rattle.model.specs.Board.{size}
 use Rattle.reading.proofs.Answering.{file-refused, file-none}
-use Rattle.changing.specs.Asked.{File}
+use Rattle.planning.specs.Asked.{File}
+use Rattle.planning.proofs.Listing as Listing
 use Rattle.changing.proofs.Calls as Calls
-use Rattle.changing.proofs.Listing as Listing
 use Rattle.changing.proofs.write.Statement.{statement}
 use Rattle.changing.proofs.write.Tie as tie
 

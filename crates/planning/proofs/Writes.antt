@@ -22,12 +22,12 @@ use Rattle.model.proofs.Accepting.{facts}
 use Rattle.model.proofs.Formatted.{house-fits}
 use Rattle.model.proofs.Ranges.{file-range}
 use Rattle.model.proofs.GrownBoard.{single-past}
+use Rattle.ways.specs.declared.Count.{Count}
 use Rattle.building.specs.Taking.{taking}
 use Rattle.ways.specs.Planning.{PlanLaid, AddressOf}
-use Rattle.changing.specs.Asked.{File, growing, grownPlan, Growable}
-use Rattle.ways.specs.declared.Count.{Count}
-use Rattle.changing.proofs.Lengths.{size-is}
-use Rattle.changing.proofs.Grown as Grown
+use Rattle.planning.specs.Asked.{File, growing, grownPlan, Growable}
+use Rattle.planning.proofs.Growing.{past-span, size-is}
+use Rattle.planning.proofs.Grown as Grown
 
 -- a walk does not end twice
 hole-or-block : {w : WalkEnd} {k : ℕ} → w ≡ Hole → w ≡ Block k → ⊥
@@ -89,7 +89,7 @@ module _ {b : List ℕ} {f o : ℕ} {new table : List ℕ} (g : Growable b f o n
   -- growth comes before no single word
   spanned : {k : ℕ} → singleBlock house b f o e ≡ Block k → growing b f e ≡ false
   spanned single = elim (either (growing b f e)) [
-    | inl t ↦ absurd (hole-or-block (single-past house b f o e (omega (arith, g .asked .some)) (Grown.past-span b f e t)) single)
+    | inl t ↦ absurd (hole-or-block (single-past house b f o e (omega (arith, g .asked .some)) (past-span b f e t)) single)
     | inr t ↦ t
   ]
 

@@ -6,21 +6,19 @@ use Prim.Native.Nat.{ℕ, zero, suc, _+_, _-_, _*_, _%_, _^_, _≤_, _<_}
 use native.Mathlib.Omega.{arith}
 use lib.ListN.{length, take, drop, length-append}
 use lib.Seq.{sets-eq, set-out, take-at}
-use lib.Dec.{leb, ltb}
-use borrow.Author.Tests.{ltb-true}
+use lib.Dec.{leb}
 use Rattle.model.specs.declared.WalkEnd.{WalkEnd}
 use Rattle.model.specs.declared.WalkEnd.the-variants.{Block, Hole}
 use Rattle.model.specs.Lists.{concat}
 use Rattle.model.specs.Layout.{Layout, house, files}
-use Rattle.model.specs.Tree.{live, span, least}
+use Rattle.model.specs.Tree.{least}
 use Rattle.model.specs.Board.{rootAddress, rootHeight, rootBlock, root, size, free}
 use Rattle.model.specs.Store.{Store, store, barrier, performed, fenced, flat, paired, laid}
 use Rattle.model.specs.Plan.{Step, Plan, plan, step, stepEpochs, planEpochs, pairs, afterwards}
 use Rattle.model.specs.Fresh.{Page, stored}
 use Rattle.model.specs.Change.{levels, levelTop, growthTo, growth, isTail, singleWord, emptyTail, tail, shadowInside, shadowWithLength, chosenWay}
 use Rattle.model.specs.Calls.{lowest}
-use Rattle.model.proofs.Cases.{true-right}
-use Rattle.model.proofs.Spans.{house-spans, least-within, least-above}
+use Rattle.model.proofs.Spans.{house-spans}
 use Rattle.model.proofs.Perform.{length-performed, performed-append, length-stored}
 use Rattle.model.proofs.Epochs.{length-flat, paired-flat}
 use Rattle.model.proofs.Grown.{length-levels}
@@ -28,13 +26,14 @@ use Rattle.model.proofs.Accepting.{facts}
 use Rattle.model.proofs.Formatted.{house-fits}
 use Rattle.model.proofs.Supplied.{Supply, supply-lowest}
 use Rattle.model.proofs.GrownBoard.{GrownBoard, grown-board}
+use Rattle.ways.specs.declared.Count.{Count}
 use Rattle.plans.specs.Laying.{onto, closing, Laid}
+use Rattle.plans.proofs.Laying as Laying
 use Rattle.building.specs.Taking.{taking, Blocks}
 use Rattle.ways.specs.Planning.{PlanLaid, Ready}
-use Rattle.changing.specs.Asked.{growing, grownPlan, Asked, Growable}
-use Rattle.ways.specs.declared.Count.{Count}
-use Rattle.plans.proofs.Laying as Laying
-use Rattle.changing.proofs.Lengths.{one-step-pairs}
+use Rattle.ways.proofs.OneStep.{step-plan}
+use Rattle.planning.specs.Asked.{growing, grownPlan, Asked, Growable}
+use Rattle.planning.proofs.Growing.{grown-height}
 
 -- ---- Pairs of two plans
 
@@ -139,7 +138,7 @@ one-step-length : (ss : List Store) (a v c : ℕ) → let all = length (pairs (p
 one-step-length ss a v c =
     let end = closing-length (length ss) (store a v) in
     let all = length-append ss (closing (length ss) (store a v)) in
-    rw (one-step-pairs ss a v c) (omega (arith, all, end .0), omega (arith, all, end .1))
+    rw (step-plan ss a v c) (omega (arith, all, end .0), omega (arith, all, end .1))
 
 -- how much growth takes: at most three blocks, their stores, a barrier and the root word
 pub record GrowthCount (r : Count) : Type 0 where
@@ -160,10 +159,6 @@ growth-count {r = r} fresh b f h low w =
 growth-some : (fresh : ℕ → ℕ) (b : List ℕ) (f h : ℕ) → 0 < length (growthTo house fresh b f h .steps)
 unfolding growthTo plan
 growth-some fresh b f h = omega arith
-
-pub past-span : (b : List ℕ) (f e : ℕ) → growing b f e ≡ true → span 8 (root house b f % 8) < e
-unfolding growing
-past-span b f e t = let s : ℕ = span 8 (root house b f % 8) in ltb-true s e (true-right (live (size house b f)) (ltb s e) t)
 
 -- ---- What follows it
 
@@ -223,9 +218,7 @@ module _ {b : List ℕ} {f o : ℕ} {new table : List ℕ} (g : Growable b f o n
 
     -- what `grow` asks
     pub may-grow : Blocks table × (root house b f % 8 ≤ h) × (h ≤ 3)
-    may-grow =
-        let above = least-above 8 (omega arith) 3 e (root house b f % 8) (omega (arith, house-spans .3, asked .end)) (past-span b f e t) in
-        rw high (asked .blocks, above, least-within 8 (omega arith) 3 e)
+    may-grow = let reached = grown-height b f e (sym t) refl high (asked .end) in (asked .blocks, reached .0, reached .1)
 
     module _ {stores stores′ : List ℕ} {count : Count} (w : PlanLaid stores 0 (growthTo house (taking table) b f h) stores′ count) where
       pub counted : GrowthCount count

@@ -5,10 +5,10 @@ use native.Mathlib.Omega.{arith}
 use lib.ListN.{length, length-take}
 use borrow.Author.Needs.{needs}
 use borrow.Author.Tests.{not-true, not-false}
-use Rattle.changing.specs.Asked.{growing}
-use Rattle.changing.proofs.Grown as Grown
-use Rattle.changing.proofs.plan_grown.Statement.{statement}
-use Rattle.changing.proofs.plan_grown.Tie as tie
+use Rattle.planning.specs.Asked.{growing}
+use Rattle.planning.proofs.Grown as Grown
+use Rattle.planning.proofs.plan_grown.Statement.{statement}
+use Rattle.planning.proofs.plan_grown.Tie as tie
 
 -- ---- The tree does not grow
 

@@ -1,9 +1,9 @@
-use borrow.Author.Needs.{needs}
 use mathlib.Core.Logic.{⊎-elim}
 use Prim.Native.Nat.{_-_}
-use Rattle.changing.proofs.Listing as Listing
-use Rattle.changing.proofs.list_free.Statement.{statement}
-use Rattle.changing.proofs.list_free.Tie as tie
+use borrow.Author.Needs.{needs}
+use Rattle.planning.proofs.Listing as Listing
+use Rattle.planning.proofs.list_free.Statement.{statement}
+use Rattle.planning.proofs.list_free.Tie as tie
 
 abbrev Inv-loop : tie.InvT-loop
 Inv-loop marks top table₀ count₀ k₀ table count k = Listing.ListedBelow marks top table₀ k table count

@@ -23,7 +23,7 @@ use Rattle.boards.specs.Survey.{spare, Surveyed}
 use Rattle.boards.proofs.Reached.{pick-next, pick-none}
 use Rattle.boards.proofs.Surveying.{sound, free-spare}
 use Rattle.building.specs.Taking.{taking}
-use Rattle.changing.specs.Asked.{Listed, File, Stocked}
+use Rattle.planning.specs.Asked.{Listed, File, Stocked}
 
 -- the blocks from k on that marks have free, of those below top
 abbrev ahead : List ℕ → ℕ → ℕ → List ℕ

@@ -2,7 +2,7 @@
 use mathlib.Core.Path.{_≡_, refl, sym, ap, _∙_}
 use mathlib.Core.Logic.{_≢_}
 use mathlib.Core.Bool.{cond}
-use mathlib.Core.List.{List, [], _∷_, _++_, append-nil}
+use mathlib.Core.List.{List, [], _∷_, _++_}
 use Prim.Native.Nat.{ℕ, zero, suc, _+_, _-_, _*_, _/_, _%_, _^_, _≤_, _<_}
 use native.Mathlib.Omega.{arith}
 use native.Mathlib.Nat.{sub-zero}
@@ -12,7 +12,7 @@ use borrow.Author.Tests.{lt-ltb, le-ltb, eq-eqb, ne-eqb}
 use Rattle.model.specs.Layout.{house, files}
 use Rattle.model.specs.Board.{rootAddress, root, size, sizeAddress}
 use Rattle.model.specs.Store.{Store, store, performed, fenced, paired, laid}
-use Rattle.model.specs.Plan.{plan, step, planEpochs, pairs}
+use Rattle.model.specs.Plan.{plan, planEpochs, pairs}
 use Rattle.model.specs.Fresh.{freshPointer}
 use Rattle.model.specs.InPlace.{tailNeed, inPlace}
 use Rattle.model.specs.Change.{cleared, lengthPlan}
@@ -20,18 +20,15 @@ use Rattle.model.proofs.Accepting.{facts}
 use Rattle.model.proofs.Formatted.{house-fits}
 use Rattle.model.proofs.Plans.{cleared-empty, cleared-live}
 use Rattle.plans.specs.Laying.{onto, closing, Laid}
-use Rattle.building.specs.Taking.{taking, Blocks}
-use Rattle.tails.specs.Hooks.{hooks}
-use Rattle.ways.specs.Planning.{AddressOf}
-use Rattle.changing.specs.Asked.{File}
 use Rattle.plans.proofs.Laying as Laying
+use Rattle.building.specs.Taking.{taking, Blocks}
 use Rattle.building.proofs.Room.{most-small}
+use Rattle.tails.specs.Hooks.{hooks}
 use Rattle.tails.proofs.Room.{tail-most, place-most}
-
--- a plan of one step: its hidden stores, and what ends it
-pub one-step-pairs : (ss : List Store) (a v c : ℕ) → pairs (plan (step ss a v ∷ []) c) ≡ ss ++ closing (length ss) (store a v)
-unfolding pairs plan step planEpochs
-one-step-pairs ss a v c = rw append-nil (Laying.step-pairs ss (store a v))
+use Rattle.ways.specs.Planning.{AddressOf}
+use Rattle.ways.proofs.OneStep.{step-plan}
+use Rattle.planning.specs.Asked.{File}
+use Rattle.planning.proofs.Growing.{size-is}
 
 -- ---- No bytes but zeros, and no fresh blocks
 
@@ -58,11 +55,6 @@ no-stores b = refl
 
 -- ---- The pairs
 
--- the size stands after the root word
-pub size-is : {b : List ℕ} {f at s : ℕ} → AddressOf b f at → s ≡ getD b (at + 1) 0 → s ≡ size house b f
-unfolding size sizeAddress
-size-is {b} a es = es ∙ ap (λ (x : ℕ). getD b (x + 1) 0) (a .is)
-
 module _ {b : List ℕ} {f at s : ℕ} (a : AddressOf b f at) (es : s ≡ getD b (at + 1) 0) (n : ℕ) where
   same-size : s ≡ size house b f
   same-size = size-is a es
@@ -71,7 +63,7 @@ module _ {b : List ℕ} {f at s : ℕ} (a : AddressOf b f at) (es : s ≡ getD b
   sized : (ss : List Store) → n ≢ s → cond (ltb n (size house b f)) [] (cleared house b f (size house b f) n) ≡ ss
       → ss ++ closing (length ss) (store (at + 1) n) ≡ pairs (lengthPlan house b f n)
   unfolding lengthPlan sizeAddress
-  sized ss d e = rw (ne-eqb n (size house b f) (rw same-size at d), e, a .is) (sym (one-step-pairs ss (rootAddress house b f + 1) n 0))
+  sized ss d e = rw (ne-eqb n (size house b f) (rw same-size at d), e, a .is) (sym (step-plan ss (rootAddress house b f + 1) n 0))
 
   -- *n = s, empty plan*
   pub length-kept : {slice : List ℕ} → n ≡ s → Laid slice 0 (pairs (lengthPlan house b f n)) slice 0

@@ -1,9 +1,9 @@
 use Prim.Native.Nat.{_-_, _%_, _≤_}
 use native.Mathlib.Omega.{arith}
 use borrow.Author.Needs.{needs}
-use Rattle.changing.proofs.Lengths as Lengths
-use Rattle.changing.proofs.plan_length.Statement.{statement}
-use Rattle.changing.proofs.plan_length.Tie as tie
+use Rattle.planning.proofs.Lengths as Lengths
+use Rattle.planning.proofs.plan_length.Statement.{statement}
+use Rattle.planning.proofs.plan_length.Tie as tie
 
 returns : tie.Need-returns
 returns c = let l = c .before in Lengths.length-kept (l .before .before .root-address .ensures) (l .word2 .ensures) _ (c .if1 .taken)

@@ -1,22 +1,22 @@
 use borrow.Author.Needs.{needs}
 use borrow.Author.Tests.{not-true, not-false}
 use Rattle.building.specs.Taking.{taking}
-use Rattle.changing.proofs.Calls as Calls
-use Rattle.changing.proofs.growth_blocks.Statement.{statement}
-use Rattle.changing.proofs.growth_blocks.Tie as tie
+use Rattle.planning.proofs.Growing as Growing
+use Rattle.planning.proofs.growth_blocks.Statement.{statement}
+use Rattle.planning.proofs.growth_blocks.Tie as tie
 
 returns : tie.Need-returns
 returns c = let g = c .before in let a = g .before .before .before .args in
-    Calls.growth-none (a .board .now) (a .file) (a .e) (g .grows .ensures) (taking (a .free .now)) (not-true _ (c .if1 .taken))
+    Growing.growth-none (a .board .now) (a .file) (a .e) (g .grows .ensures) (taking (a .free .now)) (not-true _ (c .if1 .taken))
 
 grow-requires : tie.Need-grow-requires
 grow-requires c κs = let g = c .before .before .before in let s = g .before .before .before in let a = s .args in
-    let k = Calls.grown-height (a .board .now) (a .file) (a .e) (g .grows .ensures) (not-false _ (c .before .before .if1 .left)) (c .least-height .ensures) (s .pre .2) in
+    let k = Growing.grown-height (a .board .now) (a .file) (a .e) (g .grows .ensures) (not-false _ (c .before .before .if1 .left)) (c .least-height .ensures) (s .pre .2) in
     (s .pre .1, k .0, k .1)
 
 returns-2 : tie.Need-returns-2
 returns-2 c = let h = c .before .before in let g = h .before .before .before in let a = g .before .before .before .args in
-    Calls.grown-taken (a .board .now) (a .file) (a .e) (g .grows .ensures) (not-false _ (h .before .before .if1 .left)) (h .least-height .ensures)
+    Growing.grown-taken (a .board .now) (a .file) (a .e) (g .grows .ensures) (not-false _ (h .before .before .if1 .left)) (h .least-height .ensures)
     (taking (a .free .now)) (c .before .grow .ensures)
 
 pub growth-blocks-spec : {M : Type 1} → statement M

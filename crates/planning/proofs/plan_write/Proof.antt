@@ -5,9 +5,9 @@ use borrow.Author.Needs.{needs}
 use Rattle.model.specs.declared.WalkEnd.{WalkEnd}
 use Rattle.model.specs.Layout.{house}
 use Rattle.model.specs.Change.{singleBlock}
-use Rattle.changing.proofs.Writes as Writes
-use Rattle.changing.proofs.plan_write.Statement.{statement}
-use Rattle.changing.proofs.plan_write.Tie as tie
+use Rattle.planning.proofs.Writes as Writes
+use Rattle.planning.proofs.plan_write.Statement.{statement}
+use Rattle.planning.proofs.plan_write.Tie as tie
 
 returns : tie.Need-returns
 returns c =
