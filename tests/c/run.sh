@@ -14,10 +14,13 @@ gcc -std=c11 "${flags[@]}" tests/c/reading.c "$images" -o target/c/reading
 gcc -std=c11 "${flags[@]}" tests/c/vectors.c "$images" -o target/c/vectors
 gcc -std=c11 "${flags[@]}" tests/c/words.c "$words" -o target/c/words
 gcc -std=c11 "${flags[@]}" tests/c/changing.c "$words" -o target/c/changing
+gcc -std=c11 "${flags[@]}" tests/c/examples.c "$words" -o target/c/examples
 g++ -std=c++11 -pedantic "${flags[@]}" tests/c/header.cpp "$images" "$words" -o target/c/header
 
 target/c/header
 target/c/reading
 target/c/changing
+target/c/examples | diff - tests/c/examples.txt
+echo "examples: E1 to E10 and E12 as examples.txt has them"
 python3 tests/c/vectors.py
 python3 tests/c/words.py

@@ -13,46 +13,14 @@
  * A letter is one byte; bytes are as they are; each number and each word has eight bytes, the lowest first. Of a plan and of
  * a board the hash of its words is printed.
  */
+#define PROGRAM "words"
 #include "montebeech.h"
+#include "sent.h"
 
 #include <inttypes.h>
-#include <stdio.h>
-#include <stdlib.h>
-#include <string.h>
 
 static uint64_t *board;
 static size_t board_len;
-
-static void stop(const char *why)
-{
-    fprintf(stderr, "words: %s\n", why);
-    exit(2);
-}
-
-static void get(void *bytes, size_t length)
-{
-    if (length > 0 && fread(bytes, 1, length, stdin) != length)
-        stop("the input ends too early");
-}
-
-static uint64_t get_number(void)
-{
-    uint8_t bytes[8];
-    uint64_t number = 0;
-    get(bytes, sizeof bytes);
-    for (unsigned i = 0; i < 8; i++)
-        number |= (uint64_t)bytes[i] << (8 * i);
-    return number;
-}
-
-/* Exactly as long as it is said to be, so that a tool that watches memory sees an element used past the end. */
-static void *buffer(uint64_t bytes)
-{
-    void *at = malloc(bytes);
-    if (at == NULL && bytes > 0)
-        stop("no memory");
-    return at;
-}
 
 static uint64_t *get_words(size_t *length)
 {
@@ -72,17 +40,9 @@ static uint64_t hash(const uint64_t *words, size_t length)
     return value;
 }
 
-static void read_call(void)
+static int64_t read_board(uint64_t file, uint64_t offset, uint8_t *out, size_t out_len)
 {
-    uint64_t file = get_number(), offset = get_number(), length = get_number(), fill = get_number();
-    uint8_t *out = buffer(length);
-    if (length > 0)
-        memset(out, (int)fill, length);
-    printf("read %" PRId64 " ", montebeech_words_read(board, board_len, file, offset, out, length));
-    for (uint64_t i = 0; i < length; i++)
-        printf("%02x", out[i]);
-    printf("\n");
-    free(out);
+    return montebeech_words_read(board, board_len, file, offset, out, out_len);
 }
 
 /* A call that plans; `letter` says which. */
@@ -139,7 +99,7 @@ int main(void)
             printf("size %" PRId64 "\n", montebeech_words_size(board, board_len, get_number()));
             break;
         case 'R':
-            read_call();
+            read_call(read_board);
             break;
         case 'W':
         case 'L':

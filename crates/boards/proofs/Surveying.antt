@@ -31,7 +31,7 @@ module _ (b : List ℕ) where
   abbrev inodesSound : Bool
   inodesSound = every 8 (leafSound house b) && every 32 (fileSound house b)
 
-  short : wordCountSound house b ≡ true → blockCount house b - 1 ≤ 1024
+  pub short : wordCountSound house b ≡ true → blockCount house b - 1 ≤ 1024
   unfolding wordCountSound blockCount
   short e =
       let lo : Bool = leb 128 (length b) in

@@ -22,7 +22,7 @@ use Rattle.model.specs.Change.{growth, singleBlock, writePlan, lengthPlan}
 use Rattle.model.specs.Answers.{Faults, answered}
 use Rattle.model.specs.Calls.{wordCountFault, boardFaults, fileFaults, checkAnswer, planned, lowest, writeFaults, write, setLength}
 use Rattle.model.proofs.Cases.{split, is-true, and-left, and-right}
-use Rattle.model.proofs.Refusals.{first-refused, first-done}
+use Rattle.model.proofs.Refusals.{not-refused, first-refused, first-done}
 use Rattle.model.proofs.Accepting.{facts}
 use Rattle.model.proofs.Formatted.{house-fits}
 use Rattle.model.proofs.Ways.{taken-from}
@@ -68,10 +68,6 @@ there {b} {f} {v} e z l = record { board = accepts b v (sym e ∙ z); file = ome
 -- none of refusals 1 to 4
 file-done : {b : List ℕ} {f : ℕ} → File b f → Done 0 ≡ answered (fileFaults house b f) 0
 file-done {b} {f} k = file-there b f refl (checked b (k .board)) (omega (arith, k .file))
-
--- an answer is not a refusal
-not-refused : {r : Answer} {v : ℕ} {x : Fault} → r ≡ Done v → r ≡ Refused x → ⊥
-not-refused e z = let n : _≡_ {A = ℕ} 0 1 = cc in omega arith
 
 pub done-file : {b : List ℕ} {f v : ℕ} {r : Answer} → r ≡ answered (fileFaults house b f) 0 → r ≡ Done v → File b f
 done-file {b} {f} {v} {r} e z = by (checkAnswer house b) refl

@@ -52,9 +52,6 @@ pub mod Plans
 pub mod Rules
 pub mod TakenBlocks
 pub mod FormatCut
-pub mod Alike
-pub mod BootPlans
-pub mod Boot
 -- The marked examples by computation
 pub mod Computing
 pub mod Marked

@@ -4,9 +4,10 @@ use mathlib.Core.Path.{_≡_, refl, _∙_}
 use mathlib.Core.Bool.{Bool, true, false, cond}
 use mathlib.Core.List.{[], _∷_, _++_, append-nil}
 use Prim.Native.Nat.{ℕ}
-use Rattle.model.specs.declared.Fault.{Fault}
+use native.Mathlib.Omega.{arith}
 use Rattle.model.specs.declared.Answer.{Answer}
 use Rattle.model.specs.declared.Answer.the-variants.{Done, Refused}
+use Rattle.model.specs.declared.Fault.{Fault}
 use Rattle.model.specs.Answers.{Faults, answered, unlessRefused}
 
 asked-first : (fs more : Faults) (v n : ℕ) → answered (fs ++ more) n ≡ unlessRefused (answered fs v) (answered more n) (answered fs v)
@@ -19,6 +20,10 @@ asked-first (t ∷ ts) more v n = by (t .1) (asked-first ts more v n)
         ≡ unlessRefused (cond s (Refused (t .0)) (answered ts v)) (answered more n) (cond s (Refused (t .0)) (answered ts v))
     by true ih = refl
     by false ih = ih
+
+-- an answer is not a refusal
+pub not-refused : {r : Answer} {v : ℕ} {x : Fault} → r ≡ Done v → r ≡ Refused x → ⊥
+not-refused e z = let n : _≡_ {A = ℕ} 0 1 = cc in omega arith
 
 module _ (fs more : Faults) (v n : ℕ) {r : Answer} (e : r ≡ answered fs v) where
   pub first-refused : {f : Fault} → r ≡ Refused f → answered (fs ++ more) n ≡ r

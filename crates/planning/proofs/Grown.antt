@@ -21,7 +21,6 @@ use Rattle.model.specs.Calls.{lowest}
 use Rattle.model.proofs.Spans.{house-spans}
 use Rattle.model.proofs.Perform.{length-performed, performed-append, length-stored}
 use Rattle.model.proofs.Epochs.{length-flat, paired-flat}
-use Rattle.model.proofs.Grown.{length-levels}
 use Rattle.model.proofs.Accepting.{facts}
 use Rattle.model.proofs.Formatted.{house-fits}
 use Rattle.model.proofs.Supplied.{Supply, supply-lowest}
@@ -31,6 +30,7 @@ use Rattle.plans.specs.Laying.{onto, closing, Laid}
 use Rattle.plans.proofs.Laying as Laying
 use Rattle.building.specs.Taking.{taking, Blocks}
 use Rattle.ways.specs.Planning.{PlanLaid, Ready}
+use Rattle.ways.proofs.Growth.{levels-most}
 use Rattle.ways.proofs.OneStep.{step-plan}
 use Rattle.planning.specs.Asked.{growing, grownPlan, Asked, Growable}
 use Rattle.planning.proofs.Growing.{grown-height}
@@ -124,11 +124,6 @@ onto-planned {slice} {slice′} {p} {r} b small room w =
 
 -- ---- Growth
 
-levels-most : (W : ℕ) (fresh : ℕ → ℕ) (k d : ℕ) → length (levels W fresh k d) ≤ d
-unfolding levels
-levels-most W fresh zero d = omega arith
-levels-most W fresh (suc k) d = omega (arith, length-levels W fresh (suc k) d (omega arith))
-
 closing-length : (m : ℕ) (s : Store) → (0 < length (closing m s)) × (length (closing m s) ≤ 2)
 unfolding closing
 closing-length zero s = (omega arith, omega arith)
@@ -150,7 +145,7 @@ unfolding growthTo plan
 growth-count {r = r} fresh b f h low w =
     let d : ℕ = h - rootHeight house b f in
     let ps : List Page = levels 8 fresh (rootBlock house b f) d in
-    let few : length ps ≤ d = levels-most 8 fresh (rootBlock house b f) d in
+    let few : length ps ≤ d = levels-most fresh (rootBlock house b f) d in
     let taken : r .taken ≡ length ps = w .taken in
     let blocks = length-stored 8 fresh ps 0 in
     let all = one-step-length (stored 8 fresh ps 0) (rootAddress house b f) (8 * levelTop fresh (rootBlock house b f) d + h) (length ps) in

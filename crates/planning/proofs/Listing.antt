@@ -1,27 +1,26 @@
 -- The free blocks listed at the front of a table, and what the table of a surveyed board holds.
 use mathlib.Core.Path.{_≡_, refl, sym, ap, _∙_}
 use mathlib.Core.Logic.{inl, inr}
-use mathlib.Core.Bool.{Bool, true, _&&_}
 use mathlib.Core.List.{List, [], _∷_, _++_, append-nil}
-use Prim.Native.Nat.{ℕ, zero, suc, _+_, _-_, _%_, _^_, _≤_, _<_}
+use Prim.Native.Nat.{ℕ, zero, suc, _+_, _-_, _^_, _≤_, _<_}
 use native.Mathlib.Omega.{arith}
 use native.Mathlib.Numerals.{add-one}
 use lib.ListN.{length, getD, take, drop, set, replicate, length-set, take-append-drop, List·getD-eq-default}
 use lib.Seq.{length-take-le, take-suc-set, drop-set-lt, drop-drop, getD-drop, append-snoc}
-use lib.Dec.{leb, eqb, lit<}
-use borrow.Author.Tests.{leb-true, eq-eqb, ne-eqb}
+use lib.Dec.{lit<}
+use borrow.Author.Tests.{eq-eqb, ne-eqb}
 use Rattle.model.specs.declared.Answer.{Answer}
 use Rattle.model.specs.declared.Answer.the-variants.{Done}
 use Rattle.model.specs.Lists.{consIf, pickFrom}
 use Rattle.model.specs.Layout.{house}
-use Rattle.model.specs.Board.{blockCount, size, free, wordCountSound}
+use Rattle.model.specs.Board.{blockCount, size, free}
 use Rattle.model.specs.Calls.{lowest}
-use Rattle.model.proofs.Cases.{split, true-left, true-right}
+use Rattle.model.proofs.Cases.{split}
 use Rattle.model.proofs.Tailed.{Zeros, zeros-replicate}
 use Rattle.model.proofs.Census.{free-at}
 use Rattle.boards.specs.Survey.{spare, Surveyed}
 use Rattle.boards.proofs.Reached.{pick-next, pick-none}
-use Rattle.boards.proofs.Surveying.{sound, free-spare}
+use Rattle.boards.proofs.Surveying.{short, sound, free-spare}
 use Rattle.building.specs.Taking.{taking}
 use Rattle.planning.specs.Asked.{Listed, File, Stocked}
 
@@ -86,13 +85,7 @@ zeros-after m n i = getD-drop n (replicate m 0) i 0 ∙ zeros-replicate m (n + i
 module _ {b m : List ℕ} {r : Answer} {v top : ℕ} (s : Surveyed b r m) (z : r ≡ Done v) (et : top ≡ blockCount house b - 1) where
   -- the board has at most 1,024 blocks
   pub few : top ≤ 1024
-  unfolding wordCountSound blockCount
-  few =
-      let low : Bool = leb 128 (length b) in
-      let high : Bool = leb (length b) 8192 in
-      let words : (low && high && eqb (length b % 8) 0) ≡ true = sound b v (sym (s .answer) ∙ z) .words in
-      let u = leb-true (length b) 8192 (true-right low high (true-left (low && high) (eqb (length b % 8) 0) words)) in
-      omega arith
+  few = rw et (short b (sound b v (sym (s .answer) ∙ z) .words))
 
   module _ {count : ℕ} {table : List ℕ} (k : Listed m top (replicate 1024 0) count table) where
     all-listed : pickFrom 1 (top - 1) (spare m) ≡ free house b

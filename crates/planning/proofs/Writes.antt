@@ -17,7 +17,7 @@ use Rattle.model.specs.Store.{performed}
 use Rattle.model.specs.Plan.{Plan, plan, planEpochs, afterwards}
 use Rattle.model.specs.Change.{growth, singleBlock, singleWord, chosenWay, writePlan}
 use Rattle.model.proofs.Cases.{split, either}
-use Rattle.model.proofs.Descent.{walk-inside}
+use Rattle.model.proofs.Descent.{hole≢block, walk-inside}
 use Rattle.model.proofs.Accepting.{facts}
 use Rattle.model.proofs.Formatted.{house-fits}
 use Rattle.model.proofs.Ranges.{file-range}
@@ -28,10 +28,6 @@ use Rattle.ways.specs.Planning.{PlanLaid, AddressOf}
 use Rattle.planning.specs.Asked.{File, growing, grownPlan, Growable}
 use Rattle.planning.proofs.Growing.{past-span, size-is}
 use Rattle.planning.proofs.Grown as Grown
-
--- a walk does not end twice
-hole-or-block : {w : WalkEnd} {k : ℕ} → w ≡ Hole → w ≡ Block k → ⊥
-hole-or-block p q = let z : _≡_ {A = ℕ} 0 1 = cc in omega arith
 
 -- ---- Whether a single word is written
 
@@ -62,7 +58,7 @@ block-small {b} {f} {k = k} o file a es ex ew there =
     let r : ℕ = root house b f in
     let walked : rootWalk 8 b r (size house b f) o ≡ Block k = rw (ex, a .is, size-is a es) at (sym ew ∙ there) in
     elim (split (span 8 (r % 8)) o) [
-      | inl past ↦ absurd (hole-or-block refl (rw (le-ltb o (span 8 (r % 8)) past) at walked))
+      | inl past ↦ absurd (hole≢block k (rw (le-ltb o (span 8 (r % 8)) past) at walked))
       | inr l ↦
           let in-file = walk-inside 8 b (omega arith) (r % 8) (r / 8) (size house b f) o k l (rw (lt-ltb o (span 8 (r % 8)) l) at walked) in
           omega (arith, file-range house house-fits b ok f k (file .file) in-file .1, ok .sizes .whole, ok .sizes .below)
@@ -89,7 +85,7 @@ module _ {b : List ℕ} {f o : ℕ} {new table : List ℕ} (g : Growable b f o n
   -- growth comes before no single word
   spanned : {k : ℕ} → singleBlock house b f o e ≡ Block k → growing b f e ≡ false
   spanned single = elim (either (growing b f e)) [
-    | inl t ↦ absurd (hole-or-block (single-past house b f o e (omega (arith, g .asked .some)) (past-span b f e t)) single)
+    | inl t ↦ absurd (hole≢block _ (sym (single-past house b f o e (omega (arith, g .asked .some)) (past-span b f e t)) ∙ single))
     | inr t ↦ t
   ]
 

@@ -55,7 +55,7 @@ pub fn grows(board: &[u64], file: u64, e: u64) -> bool
 
 // How many blocks growth takes.
 pub fn growth_blocks(board: &[u64], free: &[u64], file: u64, e: u64) -> u64
-    requires { ⌜ File (now board) file × Blocks (now free) × (e ≤ 32768) ⌝ }
+    requires { ⌜ Blocks (now free) × (e ≤ 32768) ⌝ }
     ensures { λ r. ⌜ r ≡ growth house (taking (now (free .entry))) (now (board .entry)) file e .taken ⌝ }
 {
     if !grows(board, file, e) {

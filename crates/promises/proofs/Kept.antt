@@ -1,6 +1,6 @@
 -- The promises, from the contracts and the laws.
-use mathlib.Core.Path.{_≡_, sym, ap, _∙_, subst}
-use mathlib.Core.Logic.{_≢_, inl, inr}
+use mathlib.Core.Path.{_≡_, sym, ap, _∙_}
+use mathlib.Core.Logic.{inl, inr}
 use mathlib.Core.Bool.{Bool, true, false, _&&_, _||_}
 use mathlib.Core.List.{List, [], _∷_}
 use Prim.Native.Nat.{ℕ, _-_, _*_, _/_, _≤_, _<_}
@@ -9,8 +9,7 @@ use lib.ListN.{length, take, length-take}
 use lib.Dec.{T, ltb}
 use borrow.Author.Tests.{le-ltb, lt-ltb}
 use Rattle.model.specs.declared.Answer.{Answer}
-use Rattle.model.specs.declared.Answer.the-variants.{Done, Refused}
-use Rattle.model.specs.declared.Fault.{Fault}
+use Rattle.model.specs.declared.Answer.the-variants.{Done}
 use Rattle.model.specs.Lists.{all, consIf, filter}
 use Rattle.model.specs.Layout.{house}
 use Rattle.model.specs.Board.{inRange, accepted, wordCountSound, contents}
@@ -23,22 +22,18 @@ use Rattle.model.specs.Cut.{Change, writing, lengthTo, fileOf, called, planOf, 
 use Rattle.model.specs.Claims.{Empty}
 use Rattle.model.proofs.Cases.{either, is-true, and-left, and-right, and-both}
 use Rattle.model.proofs.Addresses.{all-map, all-holds, holds-all}
+use Rattle.model.proofs.Refusals.{not-refused}
 use Rattle.model.proofs.Epochs.{planned-either}
 use Rattle.model.proofs.Accepting.{ranged, accepted-parts, facts, address-on-board}
 use Rattle.model.proofs.Formatted.{house-fits, format-on, format-empties}
 use Rattle.model.proofs.Rules.{call-either, power-cut-rule, accuracy-rule, plan-rule}
 use Rattle.model.proofs.FormatCut.{format-rule}
 use Rattle.plans.specs.Laying.{PlanResult}
+use Rattle.plans.proofs.Pairs.{length-paired}
 use Rattle.performing.specs.Results.{PerformResult}
 use Rattle.promises.specs.Promises.{Kept, WritePromise, SetLengthPromise, FormatPromise}
 
 -- ---- Perform, on pairs that are all there and go to the board
-
-pairs-fit : (l : List ℕ) → 2 * length (paired l) ≤ length l
-unfolding paired
-pairs-fit [] = omega arith
-pairs-fit (a ∷ []) = omega arith
-pairs-fit (a ∷ v ∷ l) = omega (arith, pairs-fit l)
 
 or-left : (s t : Bool) → T s → T (s || t)
 or-left true t h = tt
@@ -64,7 +59,7 @@ module _ (b slice : List ℕ) (k : ℕ) (counts : T (wordCountSound house b)) (t
   performs : performAnswer house b slice k ≡ Done k
   unfolding performAnswer performFaults wordCountFault answered
   performs =
-      let room : 2 * k ≤ length slice = omega (arith, pairs-fit slice) in
+      let room : 2 * k ≤ length slice = omega (arith, length-paired slice) in
       rw (is-true (wordCountSound house b) counts, le-ltb (length slice) (2 * k) room, is-true (all (λ s. ltb (s .at) (length b) || isBarrier s) (take k (paired slice))) (pairs-all (λ s. ltb (s .at) (length b)) (take k (paired slice)) on))
 
   pub performed-whole : (q : Answer) (b′ : List ℕ) → PerformResult b slice k q b′ → (q ≡ Done k) × (b′ ≡ performed b (stores (take k (paired slice))))
@@ -112,13 +107,6 @@ set-length-kept b t f n slice r slice′ e = kept b t (lengthTo f n) slice r sli
 
 -- ---- Format
 
-refused≢done : {x : Fault} {n : ℕ} → Refused x ≢ Done n
-refused≢done e = subst (λ (r : Answer). IsRefused r) e tt
-  where
-    IsRefused : Answer → Type 0
-    IsRefused (Done n) = ⊥
-    IsRefused (Refused f) = Unit
-
 module _ (b : List ℕ) (ok : T (wordCountSound house b)) (slice : List ℕ) where
   abbrev f : Planned
   f = format house b slice
@@ -135,7 +123,7 @@ module _ (b : List ℕ) (ok : T (wordCountSound house b)) (slice : List ℕ) whe
         (rw there (all-holds (λ s. ltb (s .at) (length b)) (stores ss) (all-map {A = Store} (λ s. s .at < length b) (λ s. T (ltb (s .at) (length b))) (λ s l. rw (lt-ltb (s .at) (length b) l) tt) (stores ss) (format-on house house-fits b ok))))
         q b′ w in
         (done .0, rw (done .1, there) (format-empties house house-fits b ok))
-    | inr r ↦ absurd (refused≢done (sym (r .answers) ∙ e))
+    | inr r ↦ absurd (not-refused e (r .answers))
   ]
 
 pub format-kept : FormatPromise

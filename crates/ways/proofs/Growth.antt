@@ -88,10 +88,13 @@ module _ {free plan : List ℕ} {k : ℕ} where
   null d e = rw e Taken.none
 
 -- at most one for each of d levels
-pub few-levels : {free plan plan′ : List ℕ} (k d : ℕ) {t : ℕ} → Took free plan 0 0 (levels 8 (taking free) k d) plan′ t → t ≤ d
+pub levels-most : (fresh : ℕ → ℕ) (k d : ℕ) → length (levels 8 fresh k d) ≤ d
 unfolding levels
-few-levels zero d t = omega (arith, t .next)
-few-levels {free} (suc k) d t = omega (arith, t .next, length-tabulate d (levelAt (taking free) (suc k)))
+levels-most fresh zero d = omega arith
+levels-most fresh (suc k) d = omega (arith, length-tabulate d (levelAt fresh (suc k)))
+
+pub few-levels : {free plan plan′ : List ℕ} (k d : ℕ) {t : ℕ} → Took free plan 0 0 (levels 8 (taking free) k d) plan′ t → t ≤ d
+few-levels {free} k d t = omega (arith, t .next, levels-most (taking free) k d)
 
 -- ---- The block at the top
 

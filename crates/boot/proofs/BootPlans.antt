@@ -9,22 +9,22 @@ use Prim.Native.Nat.{ℕ, zero, suc, _+_, _-_, _*_, _/_, _%_, _≤_, _<_, max}
 use native.Mathlib.Omega.{arith}
 use lib.ListN.{length, getD, replicate}
 use lib.Dec.{leb, ltb, eqb}
-use Rattle.model.specs.declared.WalkEnd.the-variants.{Block, Hole}
 use Rattle.model.specs.declared.WalkEnd.{WalkEnd}
+use Rattle.model.specs.declared.WalkEnd.the-variants.{Block, Hole}
 use Rattle.model.specs.Lists.{joined, choose, concat}
 use Rattle.model.specs.Words.{byteOf, wordOf}
 use Rattle.model.specs.Layout.{Layout}
 use Rattle.model.specs.Tree.{live, seen, ending, span, least, cell}
 use Rattle.model.specs.Board.{blockCount, trailer, inodeBlock, inodePointer, leaf, rootAddress, sizeAddress, root, size, walkTo}
 use Rattle.model.specs.Store.{Store, store, performed}
 use Rattle.model.specs.Plan.{Plan, plan, step, planEpochs, afterwards}
 use Rattle.model.specs.Fresh.{Page, splice, part, partLength, needBefore, dataPage, stored, freshPointer, pointerPage, build}
 use Rattle.model.specs.InPlace.{atBlock, tailBefore, walkLive, tailPages, tailWords, hooked, inPlace}
 use Rattle.model.specs.Change.{levels, levelTop, growthTo, growth, splicedWord, singleBlock, singleWord, isTail, emptyTail, tail, Shadow, descend, shadowInside, leafPage, shadowWithLength, chosenWay, writePlan, cleared, lengthPlan}
 use Rattle.model.proofs.Perform.{All, all-append, length-performed, performed-away, blocks-differ, stored-blocks}
 use Rattle.model.proofs.Shown.{count-kept}
 use Rattle.model.proofs.Steps.{steps-stores}
-use Rattle.model.proofs.Alike.{Alike, performed-alike, Off, off-cond, walk-to-off, cell-alike, link-alike, Found, inode-alike, leaf-alike, address-alike, address-off, root-alike, size-alike, walk-to-alike}
+use Rattle.boot.proofs.Alike.{Alike, performed-alike, Off, off-cond, walk-to-off, cell-alike, link-alike, Found, inode-alike, leaf-alike, address-alike, address-off, root-alike, size-alike, walk-to-alike}
 
 -- ---- Trees
 

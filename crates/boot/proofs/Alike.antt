@@ -9,16 +9,16 @@ use native.Mathlib.Omega.{arith}
 use lib.ListN.{length, getD, set, drop, length-set}
 use lib.Seq.{getD-drop, getD-set-same, getD-set-other, set-out}
 use lib.Dec.{leb, ltb}
-use Rattle.model.specs.declared.WalkEnd.the-variants.{Block, Hole}
 use Rattle.model.specs.declared.WalkEnd.{WalkEnd}
+use Rattle.model.specs.declared.WalkEnd.the-variants.{Block, Hole}
 use Rattle.model.specs.Lists.{tabulate, joined, every}
 use Rattle.model.specs.Words.{byteOf}
 use Rattle.model.specs.Layout.{Layout}
 use Rattle.model.specs.Tree.{ending, span, aligned, cell, link, walk, shown, blocks, sound}
 use Rattle.model.specs.Board.{rootWalk, rootBlocks, rootSound, greatest, blockCount, trailer, inodeBlock, inodePointer, leaf, rootAddress, sizeAddress, root, size, walkTo, contents, fileBlocks, fileSound}
 use Rattle.model.specs.Store.{Store, performed}
 use Rattle.model.proofs.Cases.{split, decide}
 use Rattle.model.proofs.Shown.{count-kept}
 
 pub record Alike (W : ℕ) (b b′ : List ℕ) : Type 0 where
   pub lengths : length b ≡ length b′

@@ -8,29 +8,29 @@ use native.Mathlib.Omega.{arith}
 use lib.ListN.{length, getD, take, drop, List·getD-eq-default}
 use lib.Dec.{leb, ltb, eqb, T}
 use borrow.Author.Tests.{leb-false, not-false}
 use Rattle.model.specs.declared.Answer.the-variants.{Refused}
-use Rattle.model.specs.declared.Fault.the-variants.{WordCount, Trailer, Damaged, FileNumber, Offset, End, FreeBlocks, PairCount, PlanLength, Address}
 use Rattle.model.specs.declared.Fault.{Fault}
+use Rattle.model.specs.declared.Fault.the-variants.{WordCount, Trailer, Damaged, FileNumber, Offset, End, FreeBlocks, PairCount, PlanLength, Address}
 use Rattle.model.specs.Lists.{tabulate, every, all, pickFrom, member, distinct}
 use Rattle.model.specs.Layout.{Layout, Fits, files}
 use Rattle.model.specs.Board.{trailerWord, greatest, blockCount, inodeBlock, leaf, size, contents, fileBlocks, liveBlocks, free, inRange, wordCountSound, trailerSound, leafSound, fileSound, treesSound, accepted}
 use Rattle.model.specs.Store.{Store, store, isBarrier, paired, laid}
 use Rattle.model.specs.Plan.{Plan, plan, step, pairs}
 use Rattle.model.specs.Fresh.{stored}
 use Rattle.model.specs.Change.{writePlan, lengthPlan}
 use Rattle.model.specs.Format.{formatPages, trailerAddress, trailerStores, formatPlan}
 use Rattle.model.specs.Answers.{Faults, answered, unlessRefused}
 use Rattle.model.specs.Calls.{wordCountFault, boardFaults, fileFaults, checkAnswer, freeCountAnswer, sizeAnswer, readCount, readAnswer, readBuffer, planned, lowest, writeFaults, write, setLength, format, performFaults, performAnswer}
 use Rattle.model.specs.Cut.{Change, writing, lengthTo, called}
 use Rattle.model.specs.Claims.{SameCalls, BootRule}
 use Rattle.model.proofs.Cases.{true-left, every-cong, joined-cong, every-of, split}
 use Rattle.model.proofs.Counting.{occ}
 use Rattle.model.proofs.Shown.{leaf-of, slot, inode-live, words-kept}
 use Rattle.model.proofs.Accepting.{Ranged, inode-range, leaf-range, facts, counted}
 use Rattle.model.proofs.Census.{FreeBlock, free-at}
 use Rattle.model.proofs.Apart.{inode-not-leaf}
-use Rattle.model.proofs.Alike.{Alike, dropped-alike, Found, count-alike, trailer-alike, inode-alike, pointer-alike, leaf-alike, size-alike, file-blocks-alike, file-sound-alike, contents-alike}
-use Rattle.model.proofs.BootPlans.{length-plan-alike, Clear, write-plan-alike}
+use Rattle.boot.proofs.Alike.{Alike, dropped-alike, Found, count-alike, trailer-alike, inode-alike, pointer-alike, leaf-alike, size-alike, file-blocks-alike, file-sound-alike, contents-alike}
+use Rattle.boot.proofs.BootPlans.{length-plan-alike, Clear, write-plan-alike}
 
 -- the second tests need agree only where the first hold
 and-alike : (s s′ r r′ : Bool) → s ≡ s′ → (s ≡ true → r ≡ r′) → (s && r) ≡ (s′ && r′)
