@@ -6,6 +6,7 @@ use mathlib.Core.List.{List, [], _∷_}
 use Prim.Native.Nat.{ℕ, _-_, _*_, _/_, _≤_, _<_}
 use native.Mathlib.Omega.{arith}
 use lib.ListN.{length, take, length-take}
+use lib.Seq.{take-take}
 use lib.Dec.{T, ltb}
 use borrow.Author.Tests.{le-ltb, lt-ltb}
 use Rattle.model.specs.declared.Answer.{Answer}
@@ -18,8 +19,8 @@ use Rattle.model.specs.Plan.{pairs}
 use Rattle.model.specs.Format.{formatPlan}
 use Rattle.model.specs.Answers.{answered, unlessRefused, counted}
 use Rattle.model.specs.Calls.{Planned, wordCountFault, performFaults, performAnswer, performBoard, format}
-use Rattle.model.specs.Cut.{Change, writing, lengthTo, fileOf, called, planOf, planFor, after}
-use Rattle.model.specs.Claims.{Empty}
+use Rattle.model.specs.Cut.{Change, writing, lengthTo, fileOf, called, planOf, planFor, after, lastArrived}
+use Rattle.model.specs.Claims.{CutSafe, Empty}
 use Rattle.model.proofs.Cases.{either, is-true, and-left, and-right, and-both}
 use Rattle.model.proofs.Addresses.{all-map, all-holds, holds-all}
 use Rattle.model.proofs.Refusals.{not-refused}
@@ -31,7 +32,8 @@ use Rattle.model.proofs.FormatCut.{format-rule}
 use Rattle.plans.specs.Laying.{PlanResult}
 use Rattle.plans.proofs.Pairs.{length-paired}
 use Rattle.performing.specs.Results.{PerformResult}
-use Rattle.promises.specs.Promises.{Kept, WritePromise, SetLengthPromise, FormatPromise}
+use Rattle.promises.specs.Promises.{cutAfter, Kept, WritePromise, SetLengthPromise, FormatPromise}
+use Rattle.promises.proofs.Parts.{part-stands, part-named, part-all}
 
 -- ---- Perform, on pairs that are all there and go to the board
 
@@ -88,10 +90,26 @@ module _ (b : List ℕ) (t : T (accepted house b)) (c : Change) (slice : List �
     | inr r ↦ rw (r .answers) (omega arith)
   ]
 
+  -- the first k pairs of the plan are those of the slice
+  first-pairs : (k : ℕ) → k ≤ counted (p .answer) → take k (paired (p .slice)) ≡ take k (planOf p)
+  unfolding planOf
+  first-pairs k l = sym (take-take k (counted (p .answer)) (paired (p .slice)) l)
+
+  performed-part : (k : ℕ) → k ≤ counted (p .answer) → (q : Answer) (b′ : List ℕ) → PerformResult b (p .slice) k q b′
+      → (q ≡ Done k) × CutSafe house b b′ (fileOf c) (after c (p .answer) (contents house b (fileOf c))) (planOf p) (lastArrived (planOf p) (cutAfter k (planOf p)))
+  performed-part k l q b′ w =
+      let on = part-all (λ s. ltb (s .at) (length b)) k (planOf p) stores-on in
+      let done = performed-whole b (p .slice) k (accepted-parts house b t .words) (omega (arith, pairs-there)) (rw (first-pairs k l) on) q b′ w in (
+        done .0,
+        rw (done .1, first-pairs k l, ← part-stands k (planOf p) b)
+            (power-cut-rule house house-fits b t c slice (cutAfter k (planOf p)) (part-named k (planOf p) (plan-rule house house-fits b t c slice .0 .last))),
+      )
+
   pub kept : (r : Answer) (slice′ : List ℕ) → PlanResult p r slice′ → Kept b (fileOf c) (after c r (contents house b (fileOf c))) r slice′
   unfolding planOf
   kept r slice′ e = record {
     cut = rw (e .answer, e .plan) (power-cut-rule house house-fits b t c slice);
+    part = rw (e .answer, e .plan) (λ k l q b′ w. performed-part k l q b′ w);
     whole = rw (e .answer, e .plan) (λ q b′ w.
         let done = performed-whole b (p .slice) (counted (p .answer)) (accepted-parts house b t .words) pairs-there stores-on q b′ w in
         (done .0, rw (done .1) (accuracy-rule house house-fits b t c slice)));

@@ -2,8 +2,9 @@
 -- the call, PlanResult, and what perform does with them in PerformResult.
 use mathlib.Core.Path.{_≡_}
 use mathlib.Core.Logic.{_⊎_}
-use mathlib.Core.List.{List}
-use Prim.Native.Nat.{ℕ}
+use mathlib.Core.Bool.{Bool, true, false, cond}
+use mathlib.Core.List.{List, [], _∷_}
+use Prim.Native.Nat.{ℕ, zero, suc, _≤_}
 use lib.Dec.{T}
 use Rattle.model.specs.declared.Answer.{Answer}
 use Rattle.model.specs.declared.Answer.the-variants.{Done, Refused}
@@ -11,7 +12,7 @@ use Rattle.model.specs.declared.Fault.the-variants.{Trailer}
 use Rattle.model.specs.Words.{Bytes}
 use Rattle.model.specs.Layout.{house}
 use Rattle.model.specs.Board.{trailer, contents, accepted, wordCountSound}
-use Rattle.model.specs.Store.{Store}
+use Rattle.model.specs.Store.{Store, isBarrier}
 use Rattle.model.specs.Answers.{counted}
 use Rattle.model.specs.Calls.{checkAnswer, write, setLength, format}
 use Rattle.model.specs.Cut.{writing, lengthTo, planOf, after, Cut, Names, standing, lastArrived}
@@ -23,10 +24,29 @@ use Rattle.performing.specs.Results.{PerformResult}
 abbrev pub planLeft : Answer → List ℕ → List Store
 planLeft r slice = planOf (record { answer = r; slice = slice })
 
+-- a cut one epoch later
+unfoldable pub later : Cut → Cut
+later x = record { epoch = suc (x .epoch); arrived = x .arrived }
+
+-- where one store more arrived before those of a cut: it is the first of epoch 0, or of an epoch before the cut's
+unfoldable pub firstToo : ℕ → (ℕ → Bool) → ℕ → Bool
+firstToo zero p zero = true
+firstToo zero p (suc i) = p i
+firstToo (suc e) p i = p i
+
+-- the cut after the first k pairs: each store among them arrived, and no other
+unfoldable pub cutAfter : ℕ → List Store → Cut
+cutAfter zero ss = record { epoch = 0; arrived = λ i. false }
+cutAfter (suc k) [] = record { epoch = 0; arrived = λ i. false }
+cutAfter (suc k) (s ∷ ss) = cond (isBarrier s) (later (cutAfter k ss)) (record { epoch = cutAfter k ss .epoch; arrived = firstToo (cutAfter k ss .epoch) (cutAfter k ss .arrived) })
+
 -- what is so of the plan that a call left for file f, which is to read `wanted`
 pub record Kept (b : List ℕ) (f : ℕ) (wanted : List ℕ) (r : Answer) (slice′ : List ℕ) : Type 0 where
   -- cut anywhere, it obeys the power-cut rule
   pub cut : (x : Cut) → let ss : List Store = planLeft r slice′ in Names ss x → CutSafe house b (standing ss x b) f wanted ss (lastArrived ss x)
+  -- performed by `perform` up to any pair, it leaves the board of such a cut
+  pub part : (k : ℕ) → k ≤ counted r → (q : Answer) (b′ : List ℕ) → PerformResult b slice′ k q b′
+      → let ss : List Store = planLeft r slice′ in (q ≡ Done k) × CutSafe house b b′ f wanted ss (lastArrived ss (cutAfter k ss))
   -- performed whole by `perform`, which does not refuse it, the file reads as after and no other file is changed
   pub whole : (q : Answer) (b′ : List ℕ) → PerformResult b slice′ (counted r) q b′ → (q ≡ Done (counted r)) × Altered house b b′ f wanted
 
