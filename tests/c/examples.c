@@ -1,15 +1,16 @@
 /*
- * The bench examples of document 01 that change a board, E1 to E10 and E12, on the calls on words. Under the answer of a call that plans stands its
- * plan, the first word of a pair before the second. What it prints is held to examples.txt.
+ * The bench examples of document 01, E1 to E12, on the calls on words. Under the answer of a call that plans stands its plan, the first word of a pair
+ * before the second. What it prints is held to examples.txt.
  */
 #include "montebeech.h"
 
 #include <inttypes.h>
 #include <stdio.h>
+#include <string.h>
 
 enum { PLAN = 128, LARGE = 8192 };
 
-static uint64_t board[LARGE];
+static uint64_t board[LARGE + 8];
 static size_t board_len;
 
 static void line(const char *what, int64_t answer)
@@ -155,6 +156,49 @@ static void e12(void)
     written("E12 write of one byte at 32767", 32767, "C", 1);
 }
 
+static void check(const char *what, size_t words)
+{
+    line(what, montebeech_words_check(board, words));
+}
+
+static void e11(void)
+{
+    memset(board, 0, sizeof board);
+    check("E11 120 words", 120);
+    check("E11 128 words, all zero", 128);
+    formatted(128);
+    check("E11 128 words, formatted", 128);
+    check("E11 136 words, formatted as 128", 136);
+    formatted(LARGE);
+    check("E11 8192 words, formatted", LARGE);
+    check("E11 8200 words", LARGE + 8);
+}
+
+static void read_at(const char *what, uint64_t file, uint64_t offset)
+{
+    uint8_t out[3] = {9, 9, 9};
+    line(what, montebeech_words_read(board, board_len, file, offset, out, sizeof out));
+    bytes("  buffer", out, sizeof out);
+}
+
+/* Reading at and past a size, and at the greatest one; a size past that. */
+static void e10_e12_reading(void)
+{
+    e2_board();
+    read_at("E10 read at 1", 0, 1);
+    read_at("E10 read at 2, the size", 0, 2);
+    read_at("E10 read at 3", 0, 3);
+    read_at("E10 read at 2^64 - 1", 0, UINT64_MAX);
+    read_at("E10 read of file 32", 32, 0);
+    board[16] = 3; /* a hole of height 3 */
+    board[17] = 32768;
+    read_at("E12 read at 32767", 0, 32767);
+    read_at("E12 read at 32768", 0, 32768);
+    board[17] = 32769;
+    check("E12 check, size 32769", 128);
+    read_at("E12 read, size 32769", 0, 0);
+}
+
 int main(void)
 {
     e1(128);
@@ -165,6 +209,8 @@ int main(void)
     e7_e8();
     e9();
     e10();
+    e11();
     e12();
+    e10_e12_reading();
     return 0;
 }
