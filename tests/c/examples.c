@@ -1,5 +1,5 @@
 /*
- * The bench examples of document 01, E1 to E12, on the calls on words. Under the answer of a call that plans stands its plan, the first word of a pair
+ * The bench examples of document 01, E1 to E12, and a plan that is cut, on the calls on words. Under the answer of a call that plans stands its plan, the first word of a pair
  * before the second. What it prints is held to examples.txt.
  */
 #include "montebeech.h"
@@ -29,20 +29,25 @@ static void bytes(const char *what, const uint8_t *out, size_t len)
     printf("\n");
 }
 
-/* What a call answered and planned; the plan is performed. */
-static void planned(const char *what, int64_t answer, const uint64_t *plan)
+static void pairs(int64_t answer, const uint64_t *plan)
 {
-    line(what, answer);
     for (int64_t i = 0; i < answer; i++) {
         if (plan[2 * i] == MONTEBEECH_BARRIER)
             printf(" barrier");
         else
             printf(" %" PRIu64 "=%" PRIu64, plan[2 * i], plan[2 * i + 1]);
     }
-    if (answer > 0) {
+    if (answer > 0)
         printf("\n");
+}
+
+/* What a call answered and planned; the plan is performed. */
+static void planned(const char *what, int64_t answer, const uint64_t *plan)
+{
+    line(what, answer);
+    pairs(answer, plan);
+    if (answer > 0)
         montebeech_words_perform(board, board_len, plan, PLAN, (uint64_t)answer);
-    }
 }
 
 static void written(const char *what, uint64_t offset, const char *new, size_t len)
@@ -199,6 +204,52 @@ static void e10_e12_reading(void)
     read_at("E12 read, size 32769", 0, 0);
 }
 
+/* ---- A cut: a table of champions on a board of 32 blocks is made longer and shorter; the power fails when half of a plan's pairs were performed, and the
+   same write is made again. */
+
+enum { SCORES = 5 };
+
+static void scores(const char *what, int64_t answer)
+{
+    uint8_t out[12] = {0};
+    line(what, answer);
+    check("  check", board_len);
+    free_blocks("  free");
+    line("  size", montebeech_words_size(board, board_len, SCORES));
+    line("  read", montebeech_words_read(board, board_len, SCORES, 0, out, sizeof out));
+    bytes("  bytes", out, sizeof out);
+}
+
+/* The plan of a call, of which one part in `of` is performed. */
+static void performed(const char *what, int64_t answer, const uint64_t *plan, int64_t of)
+{
+    line(what, answer);
+    pairs(answer, plan);
+    scores(of == 1 ? "perform" : "perform half", montebeech_words_perform(board, board_len, plan, PLAN, (uint64_t)(answer / of)));
+}
+
+static void table(const char *what, const char *new, size_t len, int64_t of)
+{
+    uint64_t plan[PLAN];
+    performed(what, montebeech_words_write(board, board_len, SCORES, 0, (const uint8_t *)new, len, plan, PLAN), plan, of);
+}
+
+static void table_length(const char *what, uint64_t length)
+{
+    uint64_t plan[PLAN];
+    performed(what, montebeech_words_set_length(board, board_len, SCORES, length, plan, PLAN), plan, 1);
+}
+
+static void half_a_plan(void)
+{
+    scores("format", formatted(256));
+    table("write AAABBBCCC", "AAABBBCCC", 9, 1);
+    table_length("length 12", 12);
+    table_length("length 8", 8);
+    table("write DDDAAABBBC", "DDDAAABBBC", 10, 2);
+    table("write it again", "DDDAAABBBC", 10, 1);
+}
+
 int main(void)
 {
     e1(128);
@@ -212,5 +263,6 @@ int main(void)
     e11();
     e12();
     e10_e12_reading();
+    half_a_plan();
     return 0;
 }
