@@ -3,7 +3,7 @@ use mathlib.Core.Path.{_≡_}
 use mathlib.Core.List.{List}
 use Prim.Native.Nat.{ℕ, _+_, _-_, _*_, _^_, _<_}
 use lib.ListN.{length, getD}
-use Rattle.model.specs.Words.{byteOf, wordOf}
+use Rattle.model.specs.Words.{byteOf}
 use Rattle.model.specs.Tree.{seen}
 use Rattle.model.specs.Store.{laid}
 use Rattle.model.specs.Fresh.{Page, splice, stored}

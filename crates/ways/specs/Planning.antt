@@ -8,10 +8,10 @@ use lib.Dec.{eqb}
 use Rattle.model.specs.Layout.{house}
 use Rattle.model.specs.Tree.{span, cell}
 use Rattle.model.specs.Board.{inodeBlock, rootAddress, root, size}
-use Rattle.model.specs.Store.{Store, laid}
+use Rattle.model.specs.Store.{laid}
 use Rattle.model.specs.Plan.{Plan, pairs}
 use Rattle.model.specs.Fresh.{Page, build}
-use Rattle.model.specs.Change.{Shadow, descend}
+use Rattle.model.specs.Change.{descend}
 use Rattle.building.specs.Taking.{Blocks}
 use Rattle.ways.specs.declared.Count.{Count}
 use Rattle.ways.specs.declared.Spot.{Spot}
