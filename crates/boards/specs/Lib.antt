@@ -1,1 +1,1 @@
-pub mod Survey
+pub mod Trailers

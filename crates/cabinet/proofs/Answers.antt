@@ -16,9 +16,9 @@ use Rattle.model.specs.Board.{size, contents, wordCountSound}
 use Rattle.model.specs.Answers.{answered, unlessRefused, signed}
 use Rattle.model.specs.Calls.{wordCountFault, boardFaults, fileFaults, checkAnswer, sizeAnswer, readCount, readAnswer, readBuffer}
 use Rattle.model.specs.Cabinet.{imageCheck, imageSize, imageReadAnswer, imageRead, imageReadBuffer}
-use Rattle.reading.specs.Results.{ReadResult}
 use Rattle.images.specs.Images.{boardOf, Loaded}
 use Rattle.images.proofs.Boards.{read-as, check-answer, file-answer}
+use Rattle.reading.specs.Results.{ReadResult}
 use Rattle.cabinet.specs.Results.{ImageReadResult}
 
 -- a refusal leaves the buffer: the image's definition says so once more than the board's

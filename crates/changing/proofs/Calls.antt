@@ -26,14 +26,14 @@ use Rattle.model.proofs.Refusals.{not-refused, first-refused, first-done}
 use Rattle.model.proofs.Accepting.{facts}
 use Rattle.model.proofs.Formatted.{house-fits}
 use Rattle.model.proofs.Ways.{taken-from}
-use Rattle.ways.specs.declared.Count.{Count}
-use Rattle.boards.proofs.Surveying.{sound}
-use Rattle.reading.proofs.Answering.{file-refused, file-none, file-there}
 use Rattle.plans.specs.Laying.{Laid, PlanResult}
 use Rattle.plans.proofs.Laying.{laid-none}
 use Rattle.plans.proofs.Refusing.{turned, too-short, long-enough}
+use Rattle.surveying.proofs.Surveying.{sound}
+use Rattle.reading.proofs.Answering.{file-refused, file-none, file-there}
 use Rattle.building.specs.Taking.{taking}
-use Rattle.ways.specs.Planning.{PlanLaid}
+use Rattle.growing.specs.declared.Count.{Count}
+use Rattle.growing.specs.Planned.{PlanLaid}
 use Rattle.planning.specs.Asked.{File, Stocked}
 
 -- the plan takes at least what growth takes

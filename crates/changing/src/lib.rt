@@ -1,7 +1,6 @@
 // The calls that change a file: write and length change. Each reads the board and writes a plan; it stores nothing on the board. A plan is first worked
 // out on an empty slice, for refusals 7 and 8, and then laid.
 use boards::last;
-use boards::survey::survey;
 use model::Answer;
 use model::Fault;
 use planning::growth_blocks;
@@ -9,6 +8,7 @@ use planning::list_free;
 use planning::plan_length;
 use planning::plan_write;
 use reading::check_file;
+use surveying::survey;
 ghost use Rattle.model.specs.Layout.{house};
 ghost use Rattle.model.specs.Calls.{write, setLength};
 ghost use Rattle.plans.specs.Laying.{PlanResult};

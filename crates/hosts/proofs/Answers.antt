@@ -26,8 +26,8 @@ use Rattle.model.specs.Format.{formatPlan}
 use Rattle.model.specs.Answers.{Faults, answered, counted, signed}
 use Rattle.model.specs.Calls.{wordCountFault, fileFaults, Planned, planned, lowest, writeFaults, write, setLength, format, performFaults, performAnswer}
 use Rattle.model.proofs.Cases.{split}
-use Rattle.reading.proofs.Bounds.{counted-most}
 use Rattle.plans.specs.Laying.{PlanResult}
+use Rattle.reading.proofs.Bounds.{counted-most}
 use Rattle.performing.specs.Results.{PerformResult}
 use Rattle.hosts.specs.Results.{WordsPlan}
 

@@ -22,8 +22,9 @@ use Rattle.model.proofs.GrowthWay.{live-some}
 use Rattle.trees.specs.Trees.{Counted}
 use Rattle.images.specs.Images.{boardOf, Loaded}
 use Rattle.images.proofs.Boards.{read-as, check-answer}
-use Rattle.listing.specs.Wrote.{Wrote, Listed}
-use Rattle.listing.proofs.Writing.{none, both, loose, more}
+use Rattle.text.specs.Wrote.{Wrote}
+use Rattle.text.proofs.Writing.{none, both, loose, more}
+use Rattle.listing.specs.Listed.{Listed}
 
 -- the line of one file
 module _ (b : List ℕ) (f : ℕ) {n p : ℕ} {out : List ℕ} (es : n ≡ size house b f) where

@@ -1,2 +1,1 @@
--- What the functions ensure.
-pub mod Wrote
+pub mod Listed

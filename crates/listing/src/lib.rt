@@ -1,6 +1,4 @@
 // What the lister program prints for a board image.
-pub mod text;
-
 use answers::number;
 use images::load;
 use model::Answer;
@@ -9,7 +7,8 @@ ghost use Rattle.model.specs.Lists.{joined};
 ghost use Rattle.model.specs.Layout.{house};
 ghost use Rattle.model.specs.Calls.{checkAnswer};
 ghost use Rattle.model.specs.Lister.{fileLine, answerLines};
-ghost use Rattle.listing.specs.Wrote.{Wrote, Listed};
+ghost use Rattle.text.specs.Wrote.{Wrote};
+ghost use Rattle.listing.specs.Listed.{Listed};
 
 // The line of file f, none where its size is 0.
 fn file(board: &[u64], out: &mut [u8], p: usize, f: u64) -> usize

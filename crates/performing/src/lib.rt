@@ -1,8 +1,8 @@
 // The calls that change a board as a whole: perform and format. Format plans, and stores nothing itself.
 use boards::block_count;
 use boards::last;
-use boards::survey::trailer_word;
-use boards::survey::word_count_sound;
+use boards::trailer_word;
+use boards::word_count_sound;
 use model::Answer;
 use model::Fault;
 use plans::barrier;

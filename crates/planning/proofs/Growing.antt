@@ -15,9 +15,9 @@ use Rattle.model.specs.Change.{growthTo, growth}
 use Rattle.model.proofs.Cases.{true-right}
 use Rattle.model.proofs.Spans.{least-within, least-above}
 use Rattle.model.proofs.GrowthWay.{live-some}
-use Rattle.ways.specs.declared.Count.{Count}
 use Rattle.trees.specs.Trees.{Spanned}
-use Rattle.ways.specs.Planning.{AddressOf, PlanLaid}
+use Rattle.growing.specs.declared.Count.{Count}
+use Rattle.growing.specs.Planned.{PlanLaid, AddressOf}
 use Rattle.planning.specs.Asked.{growing}
 
 -- ---- Whether a tree grows

@@ -25,13 +25,14 @@ use Rattle.model.proofs.Accepting.{facts}
 use Rattle.model.proofs.Formatted.{house-fits}
 use Rattle.model.proofs.Supplied.{Supply, supply-lowest}
 use Rattle.model.proofs.GrownBoard.{GrownBoard, grown-board}
-use Rattle.ways.specs.declared.Count.{Count}
 use Rattle.plans.specs.Laying.{onto, closing, Laid}
 use Rattle.plans.proofs.Laying as Laying
 use Rattle.building.specs.Taking.{taking, Blocks}
-use Rattle.ways.specs.Planning.{PlanLaid, Ready}
-use Rattle.ways.proofs.Growth.{levels-most}
-use Rattle.ways.proofs.OneStep.{step-plan}
+use Rattle.growing.specs.declared.Count.{Count}
+use Rattle.growing.specs.Planned.{PlanLaid}
+use Rattle.growing.proofs.Growth.{levels-most}
+use Rattle.growing.proofs.OneStep.{step-plan}
+use Rattle.ways.specs.Planning.{Ready}
 use Rattle.planning.specs.Asked.{growing, grownPlan, Asked, Growable}
 use Rattle.planning.proofs.Growing.{grown-height}
 

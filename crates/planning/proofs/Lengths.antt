@@ -23,10 +23,10 @@ use Rattle.plans.specs.Laying.{onto, closing, Laid}
 use Rattle.plans.proofs.Laying as Laying
 use Rattle.building.specs.Taking.{taking, Blocks}
 use Rattle.building.proofs.Room.{most-small}
+use Rattle.growing.specs.Planned.{AddressOf}
+use Rattle.growing.proofs.OneStep.{step-plan}
 use Rattle.tails.specs.Hooks.{hooks}
 use Rattle.tails.proofs.Room.{tail-most, place-most}
-use Rattle.ways.specs.Planning.{AddressOf}
-use Rattle.ways.proofs.OneStep.{step-plan}
 use Rattle.planning.specs.Asked.{File}
 use Rattle.planning.proofs.Growing.{size-is}
 

@@ -18,9 +18,9 @@ use Rattle.model.specs.Calls.{lowest}
 use Rattle.model.proofs.Cases.{split}
 use Rattle.model.proofs.Tailed.{Zeros, zeros-replicate}
 use Rattle.model.proofs.Census.{free-at}
-use Rattle.boards.specs.Survey.{spare, Surveyed}
-use Rattle.boards.proofs.Reached.{pick-next, pick-none}
-use Rattle.boards.proofs.Surveying.{short, sound, free-spare}
+use Rattle.surveying.specs.Survey.{spare, Surveyed}
+use Rattle.surveying.proofs.Reached.{pick-next, pick-none}
+use Rattle.surveying.proofs.Surveying.{short, sound, free-spare}
 use Rattle.building.specs.Taking.{taking}
 use Rattle.planning.specs.Asked.{Listed, File, Stocked}
 

@@ -22,9 +22,9 @@ use Rattle.model.proofs.Accepting.{facts}
 use Rattle.model.proofs.Formatted.{house-fits}
 use Rattle.model.proofs.Ranges.{file-range}
 use Rattle.model.proofs.GrownBoard.{single-past}
-use Rattle.ways.specs.declared.Count.{Count}
 use Rattle.building.specs.Taking.{taking}
-use Rattle.ways.specs.Planning.{PlanLaid, AddressOf}
+use Rattle.growing.specs.declared.Count.{Count}
+use Rattle.growing.specs.Planned.{PlanLaid, AddressOf}
 use Rattle.planning.specs.Asked.{File, growing, grownPlan, Growable}
 use Rattle.planning.proofs.Growing.{past-span, size-is}
 use Rattle.planning.proofs.Grown as Grown

@@ -14,7 +14,7 @@ use Rattle.model.specs.Store.{performed}
 use Rattle.model.specs.Plan.{Plan, planEpochs, afterwards}
 use Rattle.model.specs.Change.{growth, chosenWay}
 use Rattle.model.specs.Calls.{lowest}
-use Rattle.boards.specs.Survey.{spare}
+use Rattle.surveying.specs.Survey.{spare}
 use Rattle.building.specs.Taking.{taking, Blocks}
 
 -- the blocks that marks have free, of those below top, at the front of a table

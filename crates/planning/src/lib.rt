@@ -1,4 +1,9 @@
 // Plans of writes and length changes, once no refusal up to 6 turns the call away. `free` lists the free blocks.
+use growing::Count;
+use growing::grow;
+use growing::least_height;
+use growing::root_address;
+use growing::single;
 use model::WalkEnd;
 use plans::barrier;
 use plans::commit;
@@ -6,11 +11,6 @@ use plans::pair;
 use tails::in_place;
 use trees::root_walk;
 use trees::span;
-use ways::Count;
-use ways::grow;
-use ways::least_height;
-use ways::root_address;
-use ways::single;
 use ways::way;
 use words::put;
 use words::word;
@@ -22,7 +22,7 @@ ghost use Rattle.model.specs.Plan.{pairs};
 ghost use Rattle.model.specs.Change.{growth, writePlan, lengthPlan};
 ghost use Rattle.plans.specs.Laying.{Laid};
 ghost use Rattle.building.specs.Taking.{taking, Blocks};
-ghost use Rattle.ways.specs.Planning.{PlanLaid};
+ghost use Rattle.growing.specs.Planned.{PlanLaid};
 ghost use Rattle.planning.specs.Asked.{Listed, File, growing, grownPlan, Growable};
 
 // Lists the blocks from 1 to top - 1 that are not marked, at the front of a table. Answers how many there are.

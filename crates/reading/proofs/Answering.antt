@@ -20,9 +20,10 @@ use Rattle.model.specs.Calls.{boardFaults, fileFaults, checkAnswer, freeCountAn
 use Rattle.model.proofs.Cases.{split}
 use Rattle.model.proofs.Walks.{tabulate-part}
 use Rattle.model.proofs.Refusals.{first-refused, first-done, same-refused, same-done}
-use Rattle.boards.specs.Survey.{spare, Surveyed}
-use Rattle.boards.proofs.Surveying.{free-spare}
-use Rattle.reading.specs.Results.{fileByte, FillResult, ReadResult}
+use Rattle.surveying.specs.Survey.{spare, Surveyed}
+use Rattle.surveying.proofs.Surveying.{free-spare}
+use Rattle.files.specs.Filling.{fileByte, FillResult}
+use Rattle.reading.specs.Results.{ReadResult}
 
 -- the number of free blocks
 module _ {b m : List ℕ} {r : Answer} (s : Surveyed b r m) where

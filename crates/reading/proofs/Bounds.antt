@@ -19,7 +19,7 @@ use Rattle.model.specs.Answers.{Faults, answered, counted}
 use Rattle.model.specs.Calls.{boardFaults, fileFaults, checkAnswer, freeCountAnswer, sizeAnswer, readCount, readAnswer}
 use Rattle.model.proofs.Cases.{split, true-left, true-right, every-fails}
 use Rattle.model.proofs.Refusals.{first-refused, first-done}
-use Rattle.boards.proofs.Surveying.{sound}
+use Rattle.surveying.proofs.Surveying.{sound}
 use Rattle.reading.specs.Results.{ReadResult}
 
 pub counted-most : (fs : Faults) (n : ℕ) → counted (answered fs n) ≤ n

@@ -1,4 +1,3 @@
--- What the proofs of several functions use: the bytes that a copy and a read show (Bytes), a call's ways out (Answering), and how great answers are (Bounds).
-pub mod Bytes
+-- What the proofs of several functions use: a call's ways out (Answering), and how great answers are (Bounds).
 pub mod Answering
 pub mod Bounds

@@ -1,12 +1,10 @@
 // The calls that read a board: check, free count, size, read, and the walk to a byte. Each answers what the definition of its name answers, on all
 // inputs; a refusal leaves the caller's buffer as it was.
-pub mod files;
-
-use boards::survey::survey;
-use boards::survey::unmarked;
 use model::Answer;
 use model::Fault;
 use model::WalkEnd;
+use surveying::survey;
+use surveying::unmarked;
 use trees::root_walk;
 ghost use mathlib.Core.Path.{_≡_};
 ghost use Rattle.model.specs.Layout.{house};

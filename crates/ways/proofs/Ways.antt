@@ -21,17 +21,18 @@ use Rattle.model.specs.Change.{isTail, emptyTail, tail, shadowInside, leafPage,
 use Rattle.model.proofs.Perform.{address-block, address-place}
 use Rattle.model.proofs.Built.{length-build, need-pos}
 use Rattle.model.proofs.Tailed.{length-tail}
-use Rattle.ways.specs.declared.Count.{Count}
-use Rattle.ways.specs.declared.Spot.{Spot}
 use Rattle.plans.specs.Laying.{closing, Laid}
 use Rattle.plans.proofs.Laying as Laying
 use Rattle.building.specs.Taking.{taking, Blocks, Took}
 use Rattle.building.proofs.Room.{most-small, need-most}
 use Rattle.building.proofs.Taken as Taken
+use Rattle.growing.specs.declared.Count.{Count}
+use Rattle.growing.specs.Planned.{PlanLaid, AddressOf}
+use Rattle.growing.proofs.OneStep.{one-step}
 use Rattle.tails.specs.Hooks.{hooks}
 use Rattle.tails.proofs.Room.{tail-most, place-most}
-use Rattle.ways.specs.Planning.{PlanLaid, AddressOf, Descended, Ready, leafCopy}
-use Rattle.ways.proofs.OneStep.{one-step}
+use Rattle.ways.specs.declared.Spot.{Spot}
+use Rattle.ways.specs.Planning.{Descended, Ready, leafCopy}
 
 -- ---- The inode
 

@@ -1,4 +1,4 @@
--- What the ways of planning leave, and what they are asked on. The board is read with planned stores performed: c is the board then, b the lent one.
+-- What the ways of planning are asked on, and where a descent ends. The board is read with planned stores performed: c is the board then, b the lent one.
 use mathlib.Core.Path.{_≡_}
 use mathlib.Core.Bool.{cond}
 use mathlib.Core.List.{List}
@@ -8,24 +8,10 @@ use lib.Dec.{eqb}
 use Rattle.model.specs.Layout.{house}
 use Rattle.model.specs.Tree.{span, cell}
 use Rattle.model.specs.Board.{inodeBlock, rootAddress, root, size}
-use Rattle.model.specs.Store.{laid}
-use Rattle.model.specs.Plan.{Plan, pairs}
 use Rattle.model.specs.Fresh.{Page, build}
 use Rattle.model.specs.Change.{descend}
 use Rattle.building.specs.Taking.{Blocks}
-use Rattle.ways.specs.declared.Count.{Count}
 use Rattle.ways.specs.declared.Spot.{Spot}
-
--- a plan laid from place p on; how many pairs stand before its end, and how many fresh blocks are taken then
-pub record PlanLaid (plan : List ℕ) (p : ℕ) (q : Plan) (plan′ : List ℕ) (r : Count) : Type 0 where
-  pub is : plan′ ≡ laid plan p (pairs q)
-  pub count : r .pairs ≡ p + length (pairs q)
-  pub taken : r .taken ≡ q .taken
-
--- the word where file f's root stands; its size stands in the next
-pub record AddressOf (b : List ℕ) (f r : ℕ) : Type 0 where
-  pub is : r ≡ rootAddress house b f
-  pub small : r + 1 < 2 ^ 64
 
 -- where a descent ends: the tree that is built anew, and the address of its pointer
 pub record Descended (c : List ℕ) (h k n o : ℕ) (new : List ℕ) (a : ℕ) (r : Spot) : Type 0 where

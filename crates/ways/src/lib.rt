@@ -1,11 +1,11 @@
-// The ways of planning a write, document 01's 2 to 6. The names of arguments are those of `building`; each answers how many pairs the plan has then and
-// how many fresh blocks are taken.
-use boards::inode_pointer;
+// The ways of planning a write from the fourth on: tail, shadow inside, shadow with length. The names of arguments are those of `building`.
 use boards::trailer;
 use building::build;
 use building::minus;
-use building::spliced;
 use building::take;
+use growing::Count;
+use growing::least_height;
+use growing::root_address;
 use model::WalkEnd;
 use plans::cell_on;
 use plans::commit;
@@ -17,87 +17,18 @@ use tails::walk_live;
 use trees::span;
 use words::word;
 ghost use mathlib.Core.Path.{_≡_};
-ghost use Prim.Native.Nat.{_+_, _*_, _%_, _^_, _≤_, _<_};
+ghost use Prim.Native.Nat.{_+_, _*_, _^_, _≤_, _<_};
 ghost use lib.ListN.{length};
 ghost use Rattle.model.specs.declared.WalkEnd.the-variants.{Hole};
 ghost use Rattle.model.specs.Lists.{tabulate};
 ghost use Rattle.model.specs.Layout.{house};
-ghost use Rattle.model.specs.Tree.{span, least};
-ghost use Rattle.model.specs.Board.{root, size};
-ghost use Rattle.model.specs.Change.{levels, growthTo, singleWord, emptyTail, tail, shadowInside, shadowWithLength, chosenWay};
+ghost use Rattle.model.specs.Tree.{span};
+ghost use Rattle.model.specs.Board.{size};
+ghost use Rattle.model.specs.Change.{emptyTail, tail, shadowInside, shadowWithLength, chosenWay};
 ghost use Rattle.plans.specs.Laying.{onto};
-ghost use Rattle.building.specs.Taking.{taking, Blocks, Took};
-ghost use Rattle.ways.specs.Planning.{PlanLaid, AddressOf, Descended, Ready, leafCopy};
-
-// How many pairs a plan has and how many fresh blocks it takes.
-pub struct Count {
-    pub pairs: u64,
-    pub taken: u64,
-}
-
-// The address of a file's root word; its size stands in the next.
-pub fn root_address(board: &[u64], file: u64) -> u64
-    ensures { λ r. ⌜ AddressOf (now (board .entry)) file r ⌝ }
-{
-    8 * (inode_pointer(board, file / 4) / 8) + 2 * (file % 4)
-}
-
-// The least height whose tree spans e bytes.
-pub fn least_height(e: u64) -> u64
-    ensures { λ r. ⌜ r ≡ least 8 3 e ⌝ }
-{
-    match e {
-        0..=64 => 0,
-        65..=512 => 1,
-        513..=4096 => 2,
-        _ => 3,
-    }
-}
-
-// Lays the fresh blocks of growth over block k, one for each of d levels. Answers how many are taken.
-fn levels(free: &[u64], plan: &mut [u64], k: u64, d: u64) -> u64
-    requires { ⌜ Blocks (now free) × (k < 2 ^ 61) × (d ≤ 8) ⌝ }
-    ensures { λ r. ⌜ Took (now (free .entry)) (now (plan .entry)) 0 0 (levels 8 (taking (now (free .entry))) k d) (now (plan .exit)) r ⌝ }
-{
-    if k == 0 {
-        return 0;
-    }
-    let mut below = k;
-    let mut i = 0;
-    while i < d {
-        take(free, plan, 0, [8 * below, 0, 0, 0, 0, 0, 0, 0], i);
-        below = word(free, i);
-        i += 1;
-    }
-    d
-}
-
-// Growth of a file's tree to height h.
-pub fn grow(board: &[u64], free: &[u64], plan: &mut [u64], file: u64, h: u64) -> Count
-    requires { ⌜ Blocks (now free) × (root house (now board) file % 8 ≤ h) × (h ≤ 3) ⌝ }
-    ensures { λ r. ⌜ PlanLaid (now (plan .entry)) 0 (growthTo house (taking (now (free .entry))) (now (board .entry)) file h) (now (plan .exit)) r ⌝ }
-{
-    let at = root_address(board, file);
-    let root = word(board, at);
-    let k = root / 8;
-    let taken = levels(free, plan, k, h - root % 8);
-    let top = if taken == 0 { k } else { word(free, taken - 1) };
-    let pairs = commit(plan, 0, 8 * taken, at, 8 * top + h);
-    Count {
-        pairs: pairs,
-        taken: taken,
-    }
-}
-
-// A write to one word of data block k.
-pub fn single(board: &[u64], plan: &mut [u64], k: u64, o: u64, new: &[u8]) -> Count
-    requires { ⌜ k < 2 ^ 61 ⌝ }
-    ensures { λ r. ⌜ PlanLaid (now (plan .entry)) 0 (singleWord house (now (board .entry)) 0 k o (now (new .entry)) 0) (now (plan .exit)) r ⌝ }
-{
-    let at = 8 * k + o % 64 / 8;
-    pair(plan, 0, at, spliced(word(board, at), 8, o % 8, new, 0));
-    Count { pairs: 1, taken: 0 }
-}
+ghost use Rattle.building.specs.Taking.{taking};
+ghost use Rattle.growing.specs.Planned.{PlanLaid};
+ghost use Rattle.ways.specs.Planning.{Descended, Ready, leafCopy};
 
 // A write into an empty file.
 fn fill_empty(

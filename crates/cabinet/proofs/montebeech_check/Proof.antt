@@ -1,7 +1,7 @@
 use borrow.Author.Needs.{needs}
 use Rattle.images.proofs.Boards.{length-part}
-use Rattle.cabinet.proofs.Answers.{checked}
 use Rattle.reading.proofs.Bounds.{check-small}
+use Rattle.cabinet.proofs.Answers.{checked}
 use Rattle.cabinet.proofs.montebeech_check.Statement.{statement}
 use Rattle.cabinet.proofs.montebeech_check.Tie as tie
 

@@ -1,8 +1,8 @@
 use borrow.Author.Needs.{needs}
 use native.Mathlib.Omega.{arith}
 use Rattle.images.proofs.Boards.{length-part}
-use Rattle.cabinet.proofs.Answers.{read}
 use Rattle.reading.proofs.Bounds.{read-small}
+use Rattle.cabinet.proofs.Answers.{read}
 use Rattle.cabinet.proofs.montebeech_read.Statement.{statement}
 use Rattle.cabinet.proofs.montebeech_read.Tie as tie
 

@@ -1,7 +1,7 @@
 use borrow.Author.Needs.{needs}
 use Rattle.images.proofs.Boards.{length-part}
-use Rattle.cabinet.proofs.Answers.{sized}
 use Rattle.reading.proofs.Bounds.{size-small}
+use Rattle.cabinet.proofs.Answers.{sized}
 use Rattle.cabinet.proofs.montebeech_size.Statement.{statement}
 use Rattle.cabinet.proofs.montebeech_size.Tie as tie
 

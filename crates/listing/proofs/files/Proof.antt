@@ -4,8 +4,8 @@ use native.Mathlib.Omega.{arith}
 use Rattle.model.specs.Lists.{joined}
 use Rattle.model.specs.Layout.{house}
 use Rattle.model.specs.Lister.{fileLine}
-use Rattle.listing.specs.Wrote.{Wrote}
-use Rattle.listing.proofs.Writing.{kept}
+use Rattle.text.specs.Wrote.{Wrote}
+use Rattle.text.proofs.Writing.{kept}
 use Rattle.listing.proofs.Listing.{no-files, one-file-more, all-files}
 use Rattle.listing.proofs.files.Statement.{statement}
 use Rattle.listing.proofs.files.Tie as tie

@@ -16,12 +16,12 @@ use Rattle.trees.proofs.Marking
 use Rattle.trees.proofs.Crawling
 use borrow.Fn.Kinds.{In, Out}
 use borrow.Fn.PlainCycle.{Measures, is, falls, and}
+use Rattle.words.proofs.cell.Reads as cell-reads
 use Rattle.trees.proofs.crawl.Reads as crawl
 use Rattle.trees.proofs.crawl.Kinds as kinds
 use Rattle.trees.proofs.+crawl.Lts-crawl as lts
 use Rattle.trees.proofs.claim.Reads as claim-reads
 use Rattle.trees.proofs.span.Reads as span-reads
-use Rattle.words.proofs.cell.Reads as cell-reads
 use Rattle.trees.proofs.+crawl.{statement}
 use Rattle.trees.proofs.+crawl.Tie.{close}
 

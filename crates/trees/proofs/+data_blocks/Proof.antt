@@ -10,11 +10,11 @@ use Rattle.model.proofs.Trees.{childData}
 use Rattle.trees.proofs.DataCount
 use borrow.Fn.Kinds.{In, Out}
 use borrow.Fn.PlainCycle.{Measures, is, falls, and}
+use Rattle.words.proofs.cell.Reads as cell-reads
 use Rattle.trees.proofs.data_blocks.Reads as data-blocks
 use Rattle.trees.proofs.data_blocks.Kinds as kinds
 use Rattle.trees.proofs.+data_blocks.Lts-data_blocks as lts
 use Rattle.trees.proofs.span.Reads as span-reads
-use Rattle.words.proofs.cell.Reads as cell-reads
 use Rattle.trees.proofs.+data_blocks.{statement}
 use Rattle.trees.proofs.+data_blocks.Tie.{close}
 

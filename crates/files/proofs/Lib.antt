@@ -1,0 +1,2 @@
+-- The bytes that a copy and a read show.
+pub mod Bytes
