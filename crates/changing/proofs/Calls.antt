@@ -20,7 +20,7 @@ use Rattle.model.specs.Store.{Store, performed, fenced, laid}
 use Rattle.model.specs.Plan.{Plan, plan, pairs, planEpochs, afterwards}
 use Rattle.model.specs.Change.{growth, singleBlock, writePlan, lengthPlan}
 use Rattle.model.specs.Answers.{Faults, answered}
-use Rattle.model.specs.Calls.{wordCountFault, boardFaults, fileFaults, checkAnswer, planned, lowest, writeFaults, write, setLength}
+use Rattle.model.specs.Calls.{Planned, wordCountFault, boardFaults, fileFaults, checkAnswer, planned, lowest, writeFaults, write, setLength}
 use Rattle.model.proofs.Cases.{split, is-true, and-left, and-right}
 use Rattle.model.proofs.Refusals.{not-refused, first-refused, first-done}
 use Rattle.model.proofs.Accepting.{facts}
@@ -45,6 +45,15 @@ growth-first fresh b f o (x ∷ new) l =
     let p : Plan = growth house fresh b f (o + suc (length new)) in
     let grown : List ℕ = performed b (concat (planEpochs (p .steps))) in
     taken-from house fresh grown f (singleBlock house grown f o (o + suc (length new))) o (x ∷ new) (p .taken)
+
+-- ---- A plan is first worked out on an empty part of the slice, which leaves the slice as it was
+
+no-part : (none slice : List ℕ) → length none ≡ 0 → none ++ slice ≡ slice
+no-part [] slice e = refl
+no-part (x ∷ none) slice e = absurd (omega arith)
+
+pub unlaid : {p : Planned} {r : Answer} (none : List ℕ) {slice : List ℕ} → length none ≡ 0 → PlanResult p r slice → PlanResult p r (none ++ slice)
+unlaid none {slice} e k = rw (no-part none slice e) k
 
 -- ---- Accepted boards and their files
 
@@ -181,9 +190,10 @@ module _ {b : List ℕ} {f o : ℕ} {new table : List ℕ} {count : ℕ} (s : St
       pub plan-short : r .taken ≤ count → length slice / 2 < r .pairs → PlanResult (write house b f o new slice) (Refused PlanLength) slice
       plan-short room l = short-slice b f o new slice (s .asked .of) (s .asked .within) (s .asked .end) (enough room) counted l
 
-      pub plan-laid : {slice′ : List ℕ} {r′ : Count} → r .taken ≤ count → r .pairs ≤ length slice / 2 → PlanLaid slice 0 tablePlan slice′ r′
-          → PlanResult (write house b f o new slice) (Done (r .pairs)) slice′
-      plan-laid room l q′ = whole b f o new slice (s .asked .of) (s .asked .within) (s .asked .end) (enough room) counted l (rw same-plan at (q′ .is))
+    pub plan-laid : (none slice : List ℕ) {slice′ : List ℕ} {r′ : Count} → r .taken ≤ count → r .pairs ≤ length slice / 2 → length none ≡ 0
+        → PlanLaid (none ++ slice) 0 tablePlan slice′ r′ → PlanResult (write house b f o new slice) (Done (r .pairs)) slice′
+    plan-laid none slice room l e q′ =
+        whole b f o new slice (s .asked .of) (s .asked .within) (s .asked .end) (enough room) counted l (rw (same-plan, no-part none slice e) at (q′ .is))
 
 -- ---- Length change
 
@@ -220,5 +230,6 @@ module _ (b : List ℕ) (f n : ℕ) (slice : List ℕ) where
         pub length-short : length slice / 2 < c → PlanResult (setLength house b f n slice) (Refused PlanLength) slice
         length-short l = length-gives (too-short (lengthFaults b f n) (lengthPairs b f n) slice 0 (length-done b f n e z end) refl (q .next) l)
 
-        pub length-laid : {slice′ : List ℕ} {c′ : ℕ} → c ≤ length slice / 2 → Laid slice 0 (lengthPairs b f n) slice′ c′ → PlanResult (setLength house b f n slice) (Done c) slice′
-        length-laid l q′ = length-gives (long-enough (lengthFaults b f n) (lengthPairs b f n) slice 0 (length-done b f n e z end) refl (q .next) l (q′ .is))
+        pub length-laid : (none : List ℕ) {slice′ : List ℕ} {c′ : ℕ} → c ≤ length slice / 2 → length none ≡ 0 → Laid (none ++ slice) 0 (lengthPairs b f n) slice′ c′
+            → PlanResult (setLength house b f n slice) (Done c) slice′
+        length-laid none l e₀ q′ = length-gives (long-enough (lengthFaults b f n) (lengthPairs b f n) slice 0 (length-done b f n e z end) refl (q .next) l (rw (no-part none slice e₀) at (q′ .is)))

@@ -1,5 +1,5 @@
 // The calls that change a file: write and length change. Each reads the board and writes a plan; it stores nothing on the board. A plan is first worked
-// out on an empty slice, for refusals 7 and 8, and then laid.
+// out on an empty part of the slice, for refusals 7 and 8, and then laid.
 use boards::last;
 use model::Answer;
 use model::Fault;
@@ -30,12 +30,12 @@ fn write_some(
     if count < growth_blocks(board, free, file, o + new.len() as u64) {
         return Answer::Refused(Fault::FreeBlocks);
     }
-    let mut none = [0u64; 0];
-    let wanted = plan_write(board, free, &mut none, file, o, new);
+    let all = plan.len();
+    let wanted = plan_write(board, free, &mut plan[..0], file, o, new);
     if count < wanted.taken {
         return Answer::Refused(Fault::FreeBlocks);
     }
-    if plan.len() as u64 / 2 < wanted.pairs {
+    if all as u64 / 2 < wanted.pairs {
         return Answer::Refused(Fault::PlanLength);
     }
     plan_write(board, free, plan, file, o, new);
@@ -79,9 +79,9 @@ pub fn set_length(board: &[u64], file: u64, length: u64, plan: &mut [u64]) -> An
     if 32768 < length {
         return Answer::Refused(Fault::End);
     }
-    let mut none = [0u64; 0];
-    let pairs = plan_length(board, &mut none, file, length);
-    if plan.len() as u64 / 2 < pairs {
+    let all = plan.len();
+    let pairs = plan_length(board, &mut plan[..0], file, length);
+    if all as u64 / 2 < pairs {
         return Answer::Refused(Fault::PlanLength);
     }
     plan_length(board, plan, file, length);
