@@ -190,8 +190,14 @@ fn build<S: Sink>(view: &View, sink: &mut S, h: usize, k: u64, n: u64, o: u64, n
             *taken += 1;
             return view.block(*taken - 1);
         }
-        for j in 0..8 {
-            words[j as usize] = spliced(view.link(k, j), n, o, new, j);
+        if o == 0 && new.len() == 64 {
+            for (word, bytes) in words.iter_mut().zip(new.chunks_exact(8)) {
+                *word = u64::from_le_bytes(bytes.try_into().unwrap());
+            }
+        } else {
+            for j in 0..8 {
+                words[j as usize] = spliced(view.link(k, j), n, o, new, j);
+            }
         }
     } else {
         let s = SPAN[h - 1];

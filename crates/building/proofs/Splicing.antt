@@ -2,15 +2,16 @@
 use mathlib.Core.Path.{_≡_, refl, sym, ap, ap₂, _∙_}
 use mathlib.Core.Logic.{_≢_}
 use mathlib.Core.List.{List, [], _++_, append-nil}
-use Prim.Native.Nat.{ℕ, zero, suc, _+_, _-_, _*_, _^_, _≤_, _<_}
+use Prim.Native.Nat.{ℕ, zero, suc, _+_, _-_, _*_, _/_, _^_, _≤_, _<_}
 use native.Mathlib.Omega.{arith}
 use native.Mathlib.Nat.{zero-add, add-zero, pow-succ', pow-le-pow-right}
-use lib.ListN.{length, getD, take, drop, length-drop, drop-of-length-le}
+use lib.ListN.{length, getD, take, drop, replicate, length-drop, drop-of-length-le}
 use lib.Seq.{take-all, take-nil}
 use Rattle.model.specs.Lists.{tabulate}
-use Rattle.model.specs.Words.{byteOf, wordOf}
+use Rattle.model.specs.Words.{byteOf, wordOf, wordsOf}
 use Rattle.model.specs.Tree.{link}
 use Rattle.model.specs.Fresh.{part, dataPage}
+use Rattle.model.proofs.Cases.{tabulate-cong}
 use Rattle.model.proofs.Bytes.{byteOf-lt}
 use Rattle.model.proofs.Agree.{seen-live, seen-dead}
 use Rattle.model.proofs.Splice.{splice-in, splice-skip}
@@ -96,3 +97,14 @@ pub all-filled : {f : ℕ → ℕ} {n j : ℕ} {out out′ : List ℕ} → lengt
 all-filled {f} {n} {j} {out} e z c =
     let l : length out ≤ n = omega arith in
     rw z at (c .is) ∙ ap (λ (k : List ℕ). tabulate n f ++ k) (drop-of-length-le out l) ∙ append-nil (tabulate n f)
+
+-- a block that is written whole
+pub whole-block : (b : List ℕ) (k n o : ℕ) (new : List ℕ) {page : List ℕ} → o ≡ 0 → length new ≡ 64 → page ≡ wordsOf new ++ drop (length new / 8) (replicate 8 0)
+    → page ≡ tabulate 8 (dataPage 8 b k n o new)
+unfolding wordsOf dataPage
+whole-block b k n o new z l is =
+    let eight : length new / 8 ≡ 8 = omega arith in
+    all-filled {out = replicate 8 0} refl refl (record {
+      is = rw eight at is ∙ ap (λ (ws : List ℕ). ws ++ []) (tabulate-cong 8 _ _ (λ j u. data-word b k n o new j refl
+          (word-new (link 8 b k j) n o new j (omega arith) (omega arith) (let from : 8 * j - o ≡ 8 * j = omega arith in rw from refl))));
+    })

@@ -1,5 +1,6 @@
 // Fresh trees: the blocks on all paths to written bytes, laid into a plan. `board` is read with the stores of `grown` performed; `free` lists the free
 // blocks; c counts those taken; `base` is how many pairs of the plan stand for no fresh block.
+use images::decode;
 use images::word_at;
 use plans::block;
 use plans::link_on;
@@ -82,11 +83,17 @@ pub fn spliced(x: u64, n: u64, o: u64, new: &[u8], j: u64) -> u64
     value
 }
 
-// The words of data block k with `new` written at o.
+// The words of data block k with `new` written at o. Where all of it is written, nothing is read of the board.
 fn data_words(board: &[u64], grown: &[u64], k: u64, n: u64, o: u64, new: &[u8]) -> [u64; 8]
     ensures { λ r. ⌜ r ≡ tabulate 8 (dataPage 8 (onto (now (board .entry)) (now (grown .entry))) k n o (now (new .entry))) ⌝ }
 {
     let mut page = [0u64; 8];
+    if o == 0 {
+        if new.len() == 64 {
+            decode(new, &mut page);
+            return page;
+        }
+    }
     let mut j = 0;
     while j < 8 {
         let x = link_on(board, grown, k, j as u64);
