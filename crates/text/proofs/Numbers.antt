@@ -7,7 +7,7 @@ use native.Mathlib.Omega.{arith}
 use lib.Dec.{ltb}
 use lib.ListN.{length, length-append}
 use borrow.Author.Tests.{lt-ltb, le-ltb}
-use Rattle.model.specs.Lister.{digits, decimal}
+use Rattle.model.specs.Lister.{digits}
 use Rattle.text.specs.Wrote.{Wrote}
 use Rattle.text.proofs.Writing.{both, told}
 
