@@ -96,12 +96,17 @@ module _ (b l : List ℕ) where
   unfolding performed stores filter
   stored-none = refl
 
-  pub stored-more : (i : ℕ) → 2 * i + 1 < length l → length b < 2 ^ 64 → storedBoard (i + 1) ≡ set (storedBoard i) (getD l (2 * i) 0) (getD l (2 * i + 1) 0)
-  stored-more i h f =
+  stored-one : (i : ℕ) → 2 * i + 1 < length l → length b < 2 ^ 64 → storedBoard (i + 1) ≡ set (storedBoard i) (getD l (2 * i) 0) (getD l (2 * i + 1) 0)
+  stored-one i h f =
       let s : Store = store (getD l (2 * i) 0) (getD l (2 * i + 1) 0) in
       let ss : List Store = take i (paired l) in
       rw (take-paired l i h, stores-append ss (s ∷ []), performed-append b (stores ss) (stores (s ∷ [])))
       (one-stored (storedBoard i) (getD l (2 * i) 0) (getD l (2 * i + 1) 0) (omega (arith, length-performed b (stores ss))))
+
+  -- one more, on the board c that the first i left
+  pub stored-more : (i : ℕ) {c c′ : List ℕ} {at v : ℕ} → 2 * i + 1 < length l → length b < 2 ^ 64 → c ≡ storedBoard i → at ≡ getD l (2 * i) 0 → v ≡ getD l (2 * i + 1) 0
+      → c′ ≡ set c at v → c′ ≡ storedBoard (i + 1)
+  stored-more i h f ec ea ev e = e ∙ rw (ec, ea, ev) (sym (stored-one i h f))
 
 -- ---- Ways out
 

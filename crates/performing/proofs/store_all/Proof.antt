@@ -20,10 +20,13 @@ loop-holds c = let a = c .before .before .args in (search needs, sym (stored-non
 
 loop-again : tie.Need-loop-again Inv-loop μ-loop
 loop-again c =
-    let l = c .before .before .before .before .before .before .before in
+    let p = c .before .before in
+    let l = p .before .before .before .before .before in
     let a = l .before .before .before .args in
-    let fits : length (a .board .now) < 2 ^ 64 = omega arith in
-    (search needs, cc (stored-more (a .board .now) (a .plan .now) (l .loop .i) (omega arith) fits))
+    let fits : length (a .board .now) < 2 ^ 64 = omega arith in (
+      search needs,
+      stored-more (a .board .now) (a .plan .now) (l .loop .i) (omega arith) fits (l .loop .inv .1) (p .before .before .word .ensures) (p .before .word2 .ensures) (p .put .ensures),
+    )
 
 same-length : tie.Need-same-length Inv-loop μ-loop
 same-length c = ap length (c .before .loop .inv .1) ∙ length-performed _ _
