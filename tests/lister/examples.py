@@ -1,0 +1,34 @@
+#!/usr/bin/env python3
+"""./list-board by itself prints E13's two lines, and on each image of examples/ what examples/listings.txt has, which the reference
+model made."""
+import glob
+import os
+import subprocess
+
+ROOT = os.path.dirname(os.path.dirname(os.path.dirname(os.path.abspath(__file__))))
+EXAMPLES = os.path.join(ROOT, 'examples')
+LISTINGS = os.path.join(EXAMPLES, 'listings.txt')
+E13 = 'blocks 16 free 4\nfile 0 size 2 height 0 data 1\n'
+
+
+def list_board(*words):
+    done = subprocess.run([os.path.join(ROOT, 'list-board'), *words], capture_output=True, text=True, check=True, cwd=EXAMPLES)
+    return done.stdout
+
+
+def listings():
+    names = sorted(os.path.basename(path) for path in glob.glob(os.path.join(EXAMPLES, '*.img')))
+    return len(names), '\n'.join(name + '\n' + list_board(name) for name in names)
+
+
+def main():
+    count, text = listings()
+    assert list_board() == E13, 'list-board does not print what E13 has'
+    with open(LISTINGS) as stored:
+        assert stored.read() == text, 'the listings are not those of examples/listings.txt'
+    refused = subprocess.run([os.path.join(ROOT, 'list-board'), 'no-such.img'], capture_output=True, cwd=EXAMPLES)
+    assert refused.returncode == 2 and not refused.stdout, 'an image that cannot be read'
+    print('list-board: %d example images, listings as examples/listings.txt has them' % count)
+
+
+main()
