@@ -5,9 +5,7 @@ cd "$(dirname "$0")/../.."
 
 flags=(-Wall -Wextra -Werror -O2 -Iinclude)
 mkdir -p target/c
-for library in cabinet hosts; do
-    rt staticlib "$library" >target/c/staticlib.log 2>&1 || { cat target/c/staticlib.log; exit 1; }
-done
+tests/archives.sh cabinet hosts
 images=target/staticlib/libcabinet.a
 words=target/staticlib/libhosts.a
 gcc -std=c11 "${flags[@]}" tests/c/reading.c "$images" -o target/c/reading

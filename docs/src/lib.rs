@@ -1,0 +1,16 @@
+//! Document 01 ("Cabinet memory board: block trees and planned stores") written out a second time, from its sentences
+//! alone, so that another implementation can be compared with it. It is slow and plain on purpose: each call reads
+//! the lent board, makes its whole plan as a list of epochs, and only then tests the refusals that depend on it.
+//!
+//! Every public call gives `Ok(answer)` or `Err(refusal number)`. A refused call changes nothing that it was lent.
+
+#![forbid(unsafe_code)]
+#![deny(missing_docs)]
+
+mod board;
+mod calls;
+mod lister;
+mod plan;
+
+pub use calls::{check, format, free_count, perform, read, set_length, size, write};
+pub use lister::{image_check, image_read, image_size, listing, signed};

@@ -1,0 +1,311 @@
+//! The built library held against document 01 in plain Rust (docs/src): every answer, and every word and byte of what a
+//! call is lent, on random boards, damaged ones among them, and with arguments at and around every bound.
+//!
+//!     differential SEED CALLS [ROUND]    rounds of the seed from ROUND on, until CALLS calls have been compared
+
+mod calls;
+
+use calls::Calls;
+use std::io::Write;
+use std::process::{Command, Stdio};
+use support::boards::{block_count, damage, formatted, image_of, laid, unknown};
+use support::library;
+use support::random::Random;
+use support::rounds::Words;
+use support::ways::Ways;
+
+const BOUNDS: [u64; 8] = [0, 64, 512, 4096, 32768, 1 << 32, 1 << 63, u64::MAX];
+const FAR_FILES: [u64; 7] = [32, 33, 64, 256, 1 << 32, 1 << 63, u64::MAX];
+
+/// How many sweeps through all arguments come before random rounds, and then one among so many rounds.
+const SWEEPS: u64 = 8;
+const SWEEP_EVERY: u64 = 400;
+
+struct Test {
+    random: Random,
+    calls: Calls,
+    ways: Ways,
+    pool: Vec<u8>,
+}
+
+// ---- Arguments
+
+/// Numbers at and next to each bound, those past 2^64 - 1 going on from 0.
+fn around_bounds() -> Vec<u64> {
+    BOUNDS.iter().flat_map(|&bound| [bound.wrapping_sub(1), bound, bound.wrapping_add(1)]).collect()
+}
+
+fn offset(random: &mut Random, size: u64) -> u64 {
+    match random.below(11) {
+        10 => size.saturating_sub(1 + random.below(8)),
+        0 | 1 => random.pick(&BOUNDS).wrapping_add(random.below(5)).wrapping_sub(2),
+        2..=4 => size,
+        5 => size.wrapping_add(random.below(5)).wrapping_sub(2),
+        6 => random.below(size + 1) / 64 * 64,
+        7 => random.below(size + 1) / 8 * 8,
+        _ => random.below(size + 1),
+    }
+}
+
+/// The count of a write's bytes: small, to a bound of the tree, to the size, or any.
+fn count(random: &mut Random, size: u64, offset: u64) -> usize {
+    let wanted = match random.below(10) {
+        8 | 9 => 1 + random.below(8 - offset % 8),
+        0 | 1 => random.pick(&[0, 1, 2, 6, 7, 8, 9, 24, 63, 64, 65]),
+        2 | 3 => random.pick(&BOUNDS[1..5]).wrapping_sub(offset).wrapping_add(random.below(3)).wrapping_sub(1),
+        4 => size.wrapping_sub(offset).wrapping_add(random.below(3)).wrapping_sub(1),
+        5 => random.below(3000),
+        _ => random.below(150),
+    };
+    if wanted <= 33000 { wanted as usize } else { random.below(70) as usize }
+}
+
+fn file(random: &mut Random, few: &[u64; 3]) -> u64 {
+    match random.below(24) {
+        0 => random.pick(&FAR_FILES),
+        1..=5 => random.below(32),
+        _ => random.pick(few),
+    }
+}
+
+/// Room for every plan: none has more pairs than the board has words.
+fn room(board: &[u64]) -> usize {
+    2 * board.len()
+}
+
+/// A slice's length around twice the pairs, which are needed, or any below it.
+fn around_need(random: &mut Random, pairs: i64) -> usize {
+    let need = 2 * pairs.max(0) as u64;
+    match random.below(3) {
+        0 => random.below(need + 1) as usize,
+        _ => (need + random.below(6)).saturating_sub(3) as usize,
+    }
+}
+
+// ---- Calls
+
+impl Test {
+    fn some_bytes(&mut self, count: usize) -> Vec<u8> {
+        let from = self.random.below((self.pool.len() - count) as u64 + 1) as usize;
+        self.pool[from..from + count].to_vec()
+    }
+
+    /// The size of the file, or 0 where the board or the file number is refused.
+    fn size(&self, board: &[u64], file: u64) -> u64 {
+        library::size(board, file).max(0) as u64
+    }
+
+    fn reading(&mut self, board: &[u64], few: &[u64; 3]) {
+        let file = file(&mut self.random, few);
+        let size = self.size(board, file);
+        let offset = offset(&mut self.random, size);
+        let rest = size.saturating_sub(offset);
+        let room = match self.random.below(3) {
+            0 => self.random.below(rest + 1),
+            _ => (rest + self.random.below(5)).saturating_sub(2),
+        };
+        self.calls.check(board);
+        self.calls.free_count(board);
+        self.calls.size(board, file);
+        self.calls.read(board, file, offset, room as usize);
+    }
+
+    /// A call that plans, with ample room and then with room around what the plan needs. Answers the plan.
+    fn planned(&mut self, board: &[u64], call: impl Fn(&mut Calls, usize) -> (i64, Vec<u64>)) -> Vec<u64> {
+        let (pairs, mut plan) = call(&mut self.calls, room(board));
+        assert!(pairs != -8, "a plan has more pairs than the board has words");
+        let tight = around_need(&mut self.random, pairs);
+        call(&mut self.calls, tight);
+        plan.truncate(2 * pairs.max(0) as usize);
+        if plan.len() <= 60 && self.random.one_in(20) {
+            for length in 0..=plan.len() + 3 {
+                call(&mut self.calls, length);
+            }
+        }
+        plan
+    }
+
+    /// The plan is performed at times, and at times in part, which leaves a board as a power cut would.
+    fn performed(&mut self, board: &mut Vec<u64>, plan: &[u64]) {
+        let pairs = plan.len() as u64 / 2;
+        if !self.random.one_in(5) {
+            let some = if self.random.one_in(6) { self.random.below(pairs + 1) } else { pairs };
+            *board = self.calls.perform(board, plan, some).1;
+        }
+    }
+
+    fn writing(&mut self, board: &mut Vec<u64>, few: &[u64; 3]) {
+        let file = file(&mut self.random, few);
+        let size = self.size(board, file);
+        let offset = offset(&mut self.random, size);
+        let count = count(&mut self.random, size, offset);
+        let bytes = self.some_bytes(count);
+        let plan = self.planned(board, |calls, room| calls.write(board, file, offset, &bytes, room));
+        self.ways.write(board, file, offset.saturating_add(count as u64), &plan);
+        self.performed(board, &plan);
+    }
+
+    fn lengths(&mut self, board: &mut Vec<u64>, few: &[u64; 3]) {
+        let file = file(&mut self.random, few);
+        let size = self.size(board, file);
+        let length = match self.random.below(4) {
+            0 => self.random.below(700),
+            1 => self.random.below(32770),
+            2 => 64 * self.random.below(513),
+            _ => offset(&mut self.random, size),
+        };
+        let plan = self.planned(board, |calls, room| calls.set_length(board, file, length, room));
+        self.ways.set_length(board, file, length, &plan);
+        self.performed(board, &plan);
+    }
+
+    /// Any pairs, on a copy of the board: addresses on it and off it, barriers with any value, any count.
+    fn performing(&mut self, board: &[u64]) {
+        let words = self.random.below(40);
+        let end = board.len() as u64;
+        let mut plan: Vec<u64> = (0..words).map(|_| self.random.below(end + 1 + end / 64)).collect();
+        for word in plan.iter_mut() {
+            if self.random.one_in(12) {
+                *word = self.random.pick(&[u64::MAX, u64::MAX - 1, end, end.wrapping_sub(1), 1 << 63, 0]);
+            }
+        }
+        let pairs = match self.random.below(4) {
+            0 => self.random.pick(&[u64::MAX, 1 << 63, (1 << 63) + words / 2, 1 << 32]),
+            1 => words / 2 + self.random.below(2),
+            _ => self.random.below(words / 2 + 1),
+        };
+        self.calls.perform(board, &plan, pairs);
+    }
+
+    fn formatting(&mut self, board: &[u64]) {
+        let room = self.random.pick(&[0, 1, 83, 164, 165, 166, 167, 300]);
+        let (pairs, plan) = self.calls.format(board, room);
+        if pairs > 0 {
+            let some = self.random.below(pairs as u64 + 1);
+            let cut = self.calls.perform(board, &plan, some).1;
+            self.calls.check(&cut);
+        }
+    }
+
+    fn one_call(&mut self, board: &mut Vec<u64>, few: &[u64; 3]) {
+        match self.random.below(12) {
+            0 | 1 => self.reading(board, few),
+            2..=6 => self.writing(board, few),
+            7..=9 => self.lengths(board, few),
+            10 => self.performing(board),
+            _ => self.formatting(board),
+        }
+    }
+
+    /// The forms on an image, and at times the lister, on the board's bytes, some cut off or added.
+    fn images(&mut self, board: &[u64], few: &[u64; 3]) {
+        let mut image = image_of(board);
+        if self.random.one_in(4) {
+            let length = image.len() as u64 + self.random.below(17);
+            image.resize(length.saturating_sub(8) as usize, 0);
+        }
+        self.calls.image_check(&image);
+        for _ in 0..4 {
+            let file = file(&mut self.random, few);
+            let size = self.size(board, file);
+            let offset = offset(&mut self.random, size);
+            let room = size.saturating_sub(offset) + self.random.below(4);
+            self.calls.image_size(&image, file);
+            self.calls.image_read(&image, file, offset, room.saturating_sub(2) as usize);
+        }
+        if self.random.one_in(4) {
+            self.calls.listing(&image, listed(&image));
+        }
+    }
+}
+
+/// What the lister program prints.
+fn listed(image: &[u8]) -> String {
+    let mut lister = Command::new("target/bin/lister");
+    let mut running = lister.stdin(Stdio::piped()).stdout(Stdio::piped()).spawn().expect("target/bin/lister runs");
+    // The lister reads at most 65,537 bytes, so what is left over may meet a closed pipe.
+    let _ = running.stdin.take().expect("a pipe").write_all(image);
+    let done = running.wait_with_output().expect("the lister ends");
+    assert!(done.status.success(), "the lister ended with {}", done.status);
+    String::from_utf8(done.stdout).expect("text")
+}
+
+// ---- Rounds
+
+/// A board of each kind: laid, formatted, unknown, or one of these damaged.
+fn some_board(random: &mut Random) -> Vec<u64> {
+    let blocks = block_count(random);
+    let mut board = match random.below(8) {
+        0 => return unknown(random, blocks),
+        1..=4 => laid(random, blocks),
+        _ => formatted(random, blocks),
+    };
+    if random.one_in(4) {
+        damage(random, &mut board);
+    }
+    board
+}
+
+impl Test {
+    /// Every file number with every offset and length at or next to a bound.
+    fn sweep(&mut self) {
+        let blocks = self.random.pick(&[16, 24, 40, 100]);
+        let bare = self.random.one_in(3);
+        let mut board = if bare { formatted(&mut self.random, blocks) } else { laid(&mut self.random, blocks) };
+        if self.random.one_in(4) {
+            damage(&mut self.random, &mut board);
+        }
+        let room = room(&board);
+        for file in (0..32).chain(FAR_FILES) {
+            self.calls.size(&board, file);
+            for offset in around_bounds() {
+                let count = self.random.pick(&[0, 1, 2, 8, 9, 64, 65]);
+                let bytes = self.some_bytes(count);
+                self.calls.read(&board, file, offset, count);
+                self.calls.write(&board, file, offset, &bytes, room);
+                self.calls.set_length(&board, file, offset, room);
+            }
+        }
+    }
+
+    fn round(&mut self) {
+        let mut board = some_board(&mut self.random);
+        let few = [self.random.below(32), self.random.below(32), self.random.below(32)];
+        // Every call on a refused board has the same answer, so a few are enough.
+        let most = if library::check(&board) == 0 { 40 } else { 3 };
+        for _ in 0..2 + self.random.below(most) {
+            self.one_call(&mut board, &few);
+        }
+        self.images(&board, &few);
+        if self.random.one_in(4) && library::check(&board) == 0 {
+            damage(&mut self.random, &mut board);
+            self.reading(&board, &few);
+            self.images(&board, &few);
+        }
+    }
+}
+
+fn main() {
+    let words = Words::read("differential", 300_000);
+    let random = Random::new(words.seed, u64::MAX);
+    let mut test = Test { random, calls: Calls::default(), ways: Ways::default(), pool: Vec::new() };
+    test.pool = test.random.bytes(40_000);
+    for round in words.rounds() {
+        if test.calls.compared() >= words.wanted {
+            break;
+        }
+        test.random = Random::new(words.seed, round);
+        if round < SWEEPS || round % SWEEP_EVERY == 0 {
+            test.sweep();
+        } else {
+            test.round();
+        }
+    }
+    test.calls.report();
+    test.ways.report();
+    if words.wanted >= 100_000 {
+        test.calls.all_met();
+        test.ways.all_met();
+    }
+    println!("differential: {} calls, each as document 01 in plain Rust has it", test.calls.compared());
+}

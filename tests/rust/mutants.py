@@ -1,0 +1,92 @@
+#!/usr/bin/env python3
+"""Shows that the differential test finds faults: each edit below makes docs/src wrong in one point, and the test must fail on it.
+
+    mutants.py [CALLS]    at most so many calls for each edit (default 300,000); tests/rust/run.sh has built what is needed
+"""
+import concurrent.futures
+import os
+import re
+import shutil
+import subprocess
+import sys
+
+ROOT = os.path.dirname(os.path.dirname(os.path.dirname(os.path.abspath(__file__))))
+BUILT = os.path.join(ROOT, 'target', 'rust')
+FLAGS = ['--edition', '2021', '-C', 'opt-level=1', '-A', 'warnings', '-L', 'native=' + os.path.join(ROOT, 'target', 'staticlib')]
+
+# What is wrong, the file, the text there and what stands for it.
+EDITS = [
+    ('120 words are enough', 'board', '(128..=8_192)', '(120..=8_192)'),
+    ('words 4 to 7 of the trailer are not looked at', 'board', 'trailer[1..] == trailer_rest(board)', 'trailer[1..4] == trailer_rest(board)[..3]'),
+    ('the trailer may be pointed to', 'board', 'block <= block_count(board) - 2', 'block <= block_count(board) - 1'),
+    ('blocks reached twice', 'board', ' || live[block as usize]', ''),
+    ('a null root of height 4', 'board', 'inode.root % 8 > HEIGHT_LIMIT', 'inode.root % 8 > HEIGHT_LIMIT && inode.root / 8 != 0'),
+    ('a size of 32,769', 'board', 'inode.size > SIZE_LIMIT', 'inode.size > SIZE_LIMIT + 1'),
+    ('low bits of a file pointer', 'board', 'word(board, tree.block, index) % 8 != 0', 'word(board, tree.block, index) % 4 != 0'),
+    ('low bits of an inode pointer', 'board', 'pointer % 8 != 0', 'pointer % 2 != 0'),
+    ('a pointer at the size is live', 'board', 'self.block != 0 && start < size', 'self.block != 0 && start <= size'),
+    ('blocks past a shortened end are used', 'board', '(0..8).filter(|&index| tree.first(index) < size)', '0..8'),
+    ('the highest free block first', 'plan', 'free: free_blocks(board).into_iter()', 'free: free_blocks(board).into_iter().rev().collect::<Vec<_>>().into_iter()'),
+    ('growth to the height of the size', 'plan', 'let height = least_height(end);', 'let height = least_height(end.max(inode.size));'),
+    ('a word that is stored alone loses what is past the size', 'plan', '.unwrap_or(byte(self.board, block, position % BLOCK_BYTES))', '.unwrap_or(self.visible(block, position))'),
+    ('a fresh block is hooked to a live hole', 'plan', 'return false;', 'return true;'),
+    ('stale bytes past the end', 'plan', 'block != 0 && position < self.inode.size', 'block != 0'),
+    ('the commit one level too high', 'plan', 'tree.block != 0 && tree.height > 0 && tree.index_over', 'tree.block != 0 && tree.height > 1 && tree.index_over'),
+    ('the root loses its height', 'plan', 'let mut low = tree.height;', 'let mut low = 0;'),
+    ('the leaf copy has the old size', 'plan', 'copy[self.inode.index as usize + 1] = self.end;', ''),
+    ('bytes across two words taken for one', 'plan', 'self.end > first + 8', 'self.end > first + 16'),
+    ('a length by the size alone', 'plan', 'if length > inode.size {', 'if false {'),
+    ('the word that holds the size is not cleared', 'plan', 'first < length && size < first + 8', 'first < length && size <= first'),
+    ('one pointer too many is cleared', 'plan', '} else if first < length {', '} else if first <= length {'),
+    ('refusal 6 before 5', 'calls', 'demand(offset <= inode.size, 5)?;', 'demand(offset <= SIZE_LIMIT, 6)?;\n    demand(offset <= inode.size, 5)?;'),
+    ('offset at the size refused', 'calls', 'offset <= inode.size, 5', 'offset < inode.size, 5'),
+    ('an end of 32,768 refused', 'calls', 'end <= SIZE_LIMIT), 6', 'end < SIZE_LIMIT), 6'),
+    ('a plan slice of just the length refused', 'calls', 'slice.len() >= 2 * pairs.len()', 'slice.len() > 2 * pairs.len()'),
+    ('twice the pairs overflows', 'calls', 'pairs <= plan.len() as u64 / 2', 'pairs.wrapping_mul(2) <= plan.len() as u64'),
+    ('a barrier known by both words', 'calls', '|| pair[0] == BARRIER', '|| pair == [BARRIER, 0]'),
+    ('file 32', 'calls', 'file < FILES, 4', 'file <= FILES, 4'),
+    ('half words of an image', 'lister', 'image.len() % 8 != 0 || ', ''),
+    ('a line for an empty file', 'lister', 'if inode.size == 0 {', 'if inode.size == 0 && file > 0 {'),
+]
+
+
+def rustc(folder, *words):
+    subprocess.run(['rustc', *FLAGS, '--out-dir', folder, *words], check=True, capture_output=True, text=True, cwd=ROOT)
+
+
+def edited(folder, file, old, new):
+    shutil.rmtree(folder, ignore_errors=True)
+    shutil.copytree(os.path.join(ROOT, 'docs', 'src'), os.path.join(folder, 'src'))
+    path = os.path.join(folder, 'src', file + '.rs')
+    with open(path) as source:
+        text = source.read()
+    assert text.count(old) == 1, 'no such place, or more than one: ' + old
+    with open(path, 'w') as out:
+        out.write(text.replace(old, new))
+
+
+def found(number, calls):
+    """What the test says of edit number, or None where it passes."""
+    what, file, old, new = EDITS[number]
+    folder = os.path.join(BUILT, 'mutants', str(number))
+    edited(folder, file, old, new)
+    rustc(folder, '--crate-type', 'rlib', '--crate-name', 'document', os.path.join(folder, 'src', 'lib.rs'))
+    wrong, support = os.path.join(folder, 'libdocument.rlib'), os.path.join(BUILT, 'libsupport.rlib')
+    rustc(folder, '--extern', 'document=' + wrong, '--extern', 'support=' + support, 'tests/rust/differential.rs')
+    test = subprocess.run([os.path.join(folder, 'differential'), '1', str(calls)], capture_output=True, text=True, cwd=ROOT)
+    said = re.search(r'round (\d+); to repeat', test.stderr)
+    shutil.rmtree(folder)
+    return None if test.returncode == 0 or said is None else 'round ' + said.group(1)
+
+
+def main():
+    calls = int(sys.argv[1]) if len(sys.argv) > 1 else 300000
+    with concurrent.futures.ThreadPoolExecutor(2) as pool:
+        results = list(pool.map(lambda number: found(number, calls), range(len(EDITS))))
+    for (what, *_), result in zip(EDITS, results):
+        print('%-58s %s' % (what, result or 'NOT FOUND'))
+    assert None not in results, 'an edit was not found'
+    print('mutants: %d wrong versions of docs/src, each found by the differential test' % len(EDITS))
+
+
+main()

@@ -1,0 +1,19 @@
+#!/usr/bin/env bash
+# The built library against document 01 in plain Rust (docs/src), and power cuts on the plans that it leaves:
+#     run.sh [CALLS [BOARDS [SEED]]]    so many calls compared, so many boards after cuts; a soak is the same with more
+set -euo pipefail
+cd "$(dirname "$0")/../.."
+calls=${1:-1000000} boards=${2:-300000} seed=${3:-1}
+
+mkdir -p target/rust
+tests/archives.sh cabinet hosts
+rt check lister >target/rust/build.log 2>&1 || { cat target/rust/build.log; exit 1; }
+
+flags=(--edition 2021 -O -C overflow-checks=on -D warnings --out-dir target/rust -L target/rust -L native=target/staticlib)
+rustc "${flags[@]}" --crate-type rlib --crate-name document docs/src/lib.rs
+rustc "${flags[@]}" --crate-type rlib -l static=cabinet -l static=hosts tests/rust/support.rs
+rustc "${flags[@]}" --extern document --extern support tests/rust/differential.rs
+rustc "${flags[@]}" --extern support tests/rust/cuts.rs
+
+target/rust/differential "$seed" "$calls"
+target/rust/cuts "$seed" "$boards"

@@ -1,0 +1,7 @@
+//! What the tests of the built library share.
+
+pub mod boards;
+pub mod library;
+pub mod random;
+pub mod rounds;
+pub mod ways;
