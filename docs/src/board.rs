@@ -51,9 +51,7 @@ pub fn span(height: u64) -> u64 {
 
 /// The least height whose span holds `end` bytes, for `end` up to 32,768.
 pub fn least_height(end: u64) -> u64 {
-    (0..HEIGHT_LIMIT)
-        .find(|&height| end <= span(height))
-        .unwrap_or(HEIGHT_LIMIT)
+    (0..HEIGHT_LIMIT).find(|&height| end <= span(height)).unwrap_or(HEIGHT_LIMIT)
 }
 
 /// Words 1 to 7 of the trailer: "word 1 is 512 (bytes of inodes), word 2 is B, word 3 is 1 (the layout), words 4 to
@@ -107,11 +105,7 @@ impl Inode {
 
     /// The tree under the root word, for a live root. "A file's root word is 8 × block + height."
     pub fn tree(self) -> Subtree {
-        Subtree {
-            block: self.root / 8,
-            height: self.root % 8,
-            start: 0,
-        }
+        Subtree { block: self.root / 8, height: self.root % 8, start: 0 }
     }
 }
 
@@ -161,11 +155,7 @@ impl Subtree {
         let start = self.first(index);
         let live = self.block != 0 && start < size;
         let block = if live { word(board, self.block, index) / 8 } else { 0 };
-        Subtree {
-            block,
-            height: self.height - 1,
-            start,
-        }
+        Subtree { block, height: self.height - 1, start }
     }
 }
 
@@ -237,9 +227,7 @@ fn reach_tree(board: &[u64], live: &mut [bool], tree: Subtree, size: u64) -> Opt
 /// "A free block is any of 1 to B − 2 that isn't live." Rising.
 pub fn free_blocks(board: &[u64]) -> Vec<u64> {
     let live = live_blocks(board).unwrap_or_default();
-    (1..block_count(board) - 1)
-        .filter(|&block| live.get(block as usize) == Some(&false))
-        .collect()
+    (1..block_count(board) - 1).filter(|&block| live.get(block as usize) == Some(&false)).collect()
 }
 
 /// Where the walk to a byte ends.

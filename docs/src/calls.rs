@@ -111,12 +111,7 @@ pub fn perform(board: &mut [u64], plan: &[u64], pairs: u64) -> Result<u64, u64> 
     demand(pairs <= plan.len() as u64 / 2, 9)?;
     let on_board = 0..8 * block_count(board);
     let listed = plan.chunks_exact(2).take(pairs as usize);
-    demand(
-        listed
-            .clone()
-            .all(|pair| on_board.contains(&pair[0]) || pair[0] == BARRIER),
-        10,
-    )?;
+    demand(listed.clone().all(|pair| on_board.contains(&pair[0]) || pair[0] == BARRIER), 10)?;
     for pair in listed.filter(|pair| pair[0] != BARRIER) {
         board[pair[0] as usize] = pair[1];
     }

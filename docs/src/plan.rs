@@ -51,17 +51,13 @@ struct Fresh {
 
 impl Fresh {
     fn of(board: &[u64]) -> Fresh {
-        Fresh {
-            free: free_blocks(board).into_iter(),
-            stores: Vec::new(),
-        }
+        Fresh { free: free_blocks(board).into_iter(), stores: Vec::new() }
     }
 
     /// "Fresh blocks are taken lowest number first", "eight stores each in word order". `None` if none is left.
     fn take(&mut self, words: [u64; 8]) -> Option<u64> {
         let block = self.free.next()?;
-        self.stores
-            .extend((0..).zip(words).map(|(index, value)| (address(block, index), value)));
+        self.stores.extend((0..).zip(words).map(|(index, value)| (address(block, index), value)));
         Some(block)
     }
 }
@@ -110,13 +106,7 @@ struct Write<'a> {
 
 impl<'a> Write<'a> {
     fn on(board: &'a [u64], file: u64, offset: u64, bytes: &'a [u8]) -> Write<'a> {
-        Write {
-            board,
-            inode: inode(board, file),
-            offset,
-            bytes,
-            end: offset + bytes.len() as u64,
-        }
+        Write { board, inode: inode(board, file), offset, bytes, end: offset + bytes.len() as u64 }
     }
 
     /// Rules 3 to 6, the first that applies.
@@ -154,14 +144,8 @@ impl<'a> Write<'a> {
         let Place::Block(block) = walk(self.board, self.inode, self.offset) else {
             return None;
         };
-        let kept = |position| {
-            self.written(position)
-                .unwrap_or(byte(self.board, block, position % BLOCK_BYTES))
-        };
-        Some(vec![vec![(
-            address(block, first % BLOCK_BYTES / 8),
-            word_of(first, kept),
-        )]])
+        let kept = |position| self.written(position).unwrap_or(byte(self.board, block, position % BLOCK_BYTES));
+        Some(vec![vec![(address(block, first % BLOCK_BYTES / 8), word_of(first, kept))]])
     }
 
     /// Rule 4's condition: "no live pointer on the path to byte o is null". The root counts as one of them.
@@ -186,11 +170,7 @@ impl<'a> Write<'a> {
         if self.inode.size == 0 {
             // "The old root is ignored and the least sufficient height is used."
             let height = least_height(self.end);
-            let hole = Subtree {
-                block: 0,
-                height,
-                start: 0,
-            };
+            let hole = Subtree { block: 0, height, start: 0 };
             let block = self.build(&mut fresh, hole)?;
             others.push((0, (self.inode.root_address(), 8 * block + height)));
         } else {
@@ -267,11 +247,7 @@ impl<'a> Write<'a> {
     /// Takes a fresh block in place of the old one of `old`, which holds written bytes in its span, and fresh blocks
     /// beneath it where its pointers lead to written bytes: "those beneath a block before it, left to right".
     fn build(&self, fresh: &mut Fresh, old: Subtree) -> Option<u64> {
-        let words = if old.height == 0 {
-            self.data_words(old)
-        } else {
-            self.pointer_words(fresh, old)?
-        };
+        let words = if old.height == 0 { self.data_words(old) } else { self.pointer_words(fresh, old)? };
         fresh.take(words)
     }
 
@@ -282,11 +258,7 @@ impl<'a> Write<'a> {
         for (index, pointer) in (0..).zip(&mut words) {
             let below = old.below(self.board, index, self.inode.size);
             let written = self.touches(below.start, below.end());
-            let block = if written {
-                self.build(fresh, below)?
-            } else {
-                below.block
-            };
+            let block = if written { self.build(fresh, below)? } else { below.block };
             *pointer = 8 * block;
         }
         Some(words)
@@ -294,21 +266,14 @@ impl<'a> Write<'a> {
 
     /// The words of a fresh data block.
     fn data_words(&self, old: Subtree) -> [u64; 8] {
-        std::array::from_fn(|index| {
-            word_of(old.start + 8 * index as u64, |position| {
-                self.visible(old.block, position)
-            })
-        })
+        std::array::from_fn(|index| word_of(old.start + 8 * index as u64, |position| self.visible(old.block, position)))
     }
 
     /// The byte that is visible after the write, where the old data block is `block` (0 for a hole): the caller's, or
     /// the old one below the size, or 0.
     fn visible(&self, block: u64, position: u64) -> u8 {
-        let old = if block != 0 && position < self.inode.size {
-            byte(self.board, block, position % BLOCK_BYTES)
-        } else {
-            0
-        };
+        let old =
+            if block != 0 && position < self.inode.size { byte(self.board, block, position % BLOCK_BYTES) } else { 0 };
         self.written(position).unwrap_or(old)
     }
 }
@@ -364,13 +329,7 @@ fn clear_data(board: &[u64], data: Subtree, size: u64, length: u64, stores: &mut
         let first = data.start + 8 * index;
         if first < length && size < first + 8 {
             let kept = word(board, data.block, index).to_le_bytes();
-            let value = word_of(first, |position| {
-                if position < size {
-                    kept[(position % 8) as usize]
-                } else {
-                    0
-                }
-            });
+            let value = word_of(first, |position| if position < size { kept[(position % 8) as usize] } else { 0 });
             stores.push((first, (address(data.block, index), value)));
         }
     }
@@ -381,9 +340,7 @@ pub fn format(board: &[u64]) -> Plan {
     let trailer = block_count(board) - 1;
     let pointers = (0..8).map(|index| (address(1, index), 8 * (2 + index)));
     let leaves = (address(2, 0)..address(10, 0)).map(|address| (address, 0));
-    let rest = (1..)
-        .zip(trailer_rest(board))
-        .map(|(index, value)| (address(trailer, index), value));
+    let rest = (1..).zip(trailer_rest(board)).map(|(index, value)| (address(trailer, index), value));
     vec![
         vec![(address(trailer, 0), 0)],
         pointers.chain(leaves).chain(rest).collect(),

@@ -20,6 +20,7 @@ target/c/reading
 target/c/changing
 target/c/examples | diff - tests/c/examples.txt
 echo "examples: E1 to E12 and a cut plan as examples.txt has them"
+python3 tests/c/guide.py
 python3 tests/c/vectors.py &
 vectors=$!
 python3 tests/c/words.py

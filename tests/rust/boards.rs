@@ -223,7 +223,8 @@ pub fn damage(random: &mut Random, board: &mut Vec<u64>) {
 
 /// A good trailer over words of which nothing else is known.
 pub fn unknown(random: &mut Random, blocks: u64) -> Vec<u64> {
-    let mut words: Vec<u64> = (0..8 * blocks).map(|_| random.pick(&[0, 1, 2, 3]) * 4 * random.below(2 * blocks)).collect();
+    let mut words: Vec<u64> =
+        (0..8 * blocks).map(|_| random.pick(&[0, 1, 2, 3]) * 4 * random.below(2 * blocks)).collect();
     let end = words.len();
     let pointer_block = 1 + random.below(blocks - 2);
     words[end - 8..].copy_from_slice(&trailer(blocks, pointer_block));

@@ -1,5 +1,5 @@
-//! One call of the library beside the same call of docs/src, on equal copies of what it may write to. Both must leave the
-//! same answer and the same words or bytes; nothing else that the library was lent, nor a guard, may change.
+//! One call of the library beside the same call of docs/src, on equal copies of what it may write to. Both must leave
+//! the same answer and the same words or bytes; nothing else that the library was lent, nor a guard, may change.
 
 use std::fmt::Arguments;
 use support::library;
@@ -169,7 +169,11 @@ impl Calls {
     /// What the lister printed, beside what it should print.
     pub fn listing(&mut self, image: &[u8], printed: String) {
         let expected = document::listing(image);
-        assert!(printed == expected, "the lister on {} bytes prints {printed:?}, docs/src has {expected:?}", image.len());
+        assert!(
+            printed == expected,
+            "the lister on {} bytes prints {printed:?}, docs/src has {expected:?}",
+            image.len()
+        );
         let refusal = printed.strip_prefix("refused ").map_or(0, |rest| rest.trim_end().parse().expect("a number"));
         self.count(Kind::Lister, -refusal);
     }

@@ -1,36 +1,24 @@
 //! Power cuts on plans as the built library leaves them: in every epoch all sets of its stores where it has at most 12,
-//! and random sets where it has more. On each board that such a cut leaves, the library checks the board and reads all 32
-//! files, which are held against before and after. After is worked out on plain arrays of bytes, never from the plan.
+//! and random sets where it has more. On each board that such a cut leaves, the library checks the board and reads all
+//! 32 files, which are held against before and after. After is worked out on plain arrays of bytes, not from the plan.
 //!
 //!     cuts SEED BOARDS [ROUND]    rounds of the seed from ROUND on, until BOARDS boards have been tried
 
+mod changes;
+
+use changes::{change, contents, Change, FILES};
 use std::ops::AddAssign;
-use support::boards::{block_count, formatted, laid, GREATEST};
+use support::boards::{block_count, formatted, laid};
 use support::library;
 use support::random::Random;
 use support::rounds::Words;
 use support::ways::Ways;
 
 const BARRIER: u64 = u64::MAX;
-const FILES: usize = 32;
 
 /// Epochs of more stores than this are cut at random sets, so many of them.
 const ALL_SETS: usize = 12;
 const RANDOM_SETS: usize = 40;
-
-enum Asked {
-    /// Offset and bytes.
-    Write(u64, Vec<u8>),
-    Length(u64),
-}
-
-/// A plan, with what the change is to do.
-struct Change {
-    file: usize,
-    before: Vec<Vec<u8>>,
-    after: Vec<u8>,
-    plan: Vec<u64>,
-}
 
 #[derive(Default)]
 struct Tally {
@@ -49,17 +37,7 @@ impl AddAssign for Tally {
     }
 }
 
-// ---- What a board reads as
-
-fn contents(board: &[u64]) -> Vec<Vec<u8>> {
-    let mut out = vec![0; GREATEST as usize + 1];
-    let read = |file| {
-        let count = library::read(board, file as u64, 0, &mut out);
-        assert!(count >= 0, "read of file {file} is refused {}", -count);
-        out[..count as usize].to_vec()
-    };
-    (0..FILES).map(read).collect()
-}
+// ---- Cuts
 
 /// Says what is wrong with a board that a cut left, if anything is.
 fn fault(board: &[u64], change: &Change, last_arrived: bool) -> Option<String> {
@@ -77,8 +55,6 @@ fn fault(board: &[u64], change: &Change, last_arrived: bool) -> Option<String> {
     }
     None
 }
-
-// ---- Cuts
 
 fn epochs(plan: &[u64]) -> Vec<&[u64]> {
     let mut found = Vec::new();
@@ -146,72 +122,15 @@ fn cut(random: &mut Random, board: &[u64], change: &Change) -> Result<Tally, Str
     Ok(tally)
 }
 
-// ---- Changes
-
-/// Where a write begins and how many bytes it has, small ones more often.
-fn stretch(random: &mut Random, size: u64) -> (u64, usize) {
-    let offset = match random.below(4) {
-        0 => size,
-        1 => random.below(size + 1) / 8 * 8,
-        _ => random.below(size + 1),
-    };
-    let count = match random.below(6) {
-        0 => 1 + random.below(8 - offset % 8),
-        1 => 1 + random.below(2000),
-        2 => random.pick(&[64, 512, 4096, 32768]).max(offset + 1) - offset,
-        _ => 1 + random.below(100),
-    };
-    (offset, count as usize)
-}
-
-fn asked(random: &mut Random, size: u64) -> Asked {
-    if random.one_in(3) {
-        return Asked::Length(if random.one_in(2) { random.below(GREATEST + 1) } else { random.below(2 * size + 200) });
+/// "A cut inside it leaves the old board's word 0, or 0 (refused 2), or 32 empty files."
+fn format_cut(board: &[u64], left: &[u64], first_arrived: bool, last_arrived: bool) -> bool {
+    if !first_arrived {
+        return left == board;
     }
-    let (offset, count) = stretch(random, size);
-    Asked::Write(offset, random.bytes(count))
-}
-
-/// The file as a plain array of bytes, changed.
-fn after(before: &[u8], asked: &Asked) -> Vec<u8> {
-    let mut after = before.to_vec();
-    match asked {
-        Asked::Length(length) => after.resize(*length as usize, 0),
-        Asked::Write(offset, bytes) => {
-            let (start, end) = (*offset as usize, *offset as usize + bytes.len());
-            after.resize(before.len().max(end), 0);
-            after[start..end].copy_from_slice(bytes);
-        }
+    if !last_arrived {
+        return left[left.len() - 8] == 0 && library::check(left) == -2;
     }
-    after
-}
-
-fn planned(board: &[u64], file: u64, asked: &Asked, ways: &mut Ways) -> Option<Vec<u64>> {
-    let mut plan = vec![0; 2 * board.len()];
-    let pairs = match asked {
-        Asked::Length(length) => library::set_length(board, file, *length, &mut plan),
-        Asked::Write(offset, bytes) => library::write(board, file, *offset, bytes, &mut plan),
-    };
-    if pairs <= 0 {
-        return None;
-    }
-    plan.truncate(2 * pairs as usize);
-    match asked {
-        Asked::Length(length) => ways.set_length(board, file, *length, &plan),
-        Asked::Write(offset, bytes) => ways.write(board, file, offset + bytes.len() as u64, &plan),
-    }
-    Some(plan)
-}
-
-/// A random write or length change that the library plans with at least one pair, or nothing.
-fn change(random: &mut Random, board: &[u64], ways: &mut Ways) -> Option<Change> {
-    let before = contents(board);
-    let most = random.pick(&[3, 3, 32]);
-    let file = random.below(most) as usize;
-    let asked = asked(random, before[file].len() as u64);
-    let plan = planned(board, file as u64, &asked, ways)?;
-    let after = after(&before[file], &asked);
-    Some(Change { file, before, after, plan })
+    library::check(left) == 0 && contents(left).iter().all(Vec::is_empty)
 }
 
 // ---- Plans that must not pass
@@ -227,6 +146,10 @@ impl Spoilt {
         let spoilt = Change { file: change.file, before: change.before.clone(), after: change.after.clone(), plan };
         self.tried += 1;
         self.found += u64::from(cut(random, board, &spoilt).is_err());
+    }
+
+    fn report(&self, how: &str) {
+        println!("plans {how}: {} of {} would show a false history, and are found", self.found, self.tried);
     }
 }
 
@@ -246,6 +169,7 @@ struct Test {
     ways: Ways,
     plans: u64,
     formats: u64,
+    format_boards: u64,
     no_barriers: Spoilt,
     commits_alone: Spoilt,
 }
@@ -272,21 +196,19 @@ impl Test {
         }
     }
 
-    /// A cut inside format leaves the old board's word 0, or a board that is refused 2, or 32 empty files.
+    /// Every cut of a format of the board.
     fn format(&mut self, board: &[u64]) {
         let mut plan = vec![0; 166];
         assert!(library::format(board, &mut plan) == 83, "format's pairs");
         let mut stands = board.to_vec();
-        let (epochs, root) = (epochs(&plan), board.len() - 8);
+        let epochs = epochs(&plan);
         for (at, epoch) in epochs.iter().enumerate() {
             for set in sets(&mut self.random, epoch.len() / 2) {
                 let left = stored(&stands, epoch, &set);
-                let (first, last) = (at == 0 && !set[0], at + 1 == epochs.len() && set[0]);
-                let kept = left[root] == board[root] && left == board;
-                let empty = library::check(&left) == 0 && contents(&left).iter().all(Vec::is_empty);
-                let right = if first { kept } else if last { empty } else { left[root] == 0 && library::check(&left) == -2 };
-                assert!(right, "format cut in epoch {at}");
-                self.tally.boards += 1;
+                let first_arrived = at > 0 || set[0];
+                let last_arrived = at + 1 == epochs.len() && set[0];
+                assert!(format_cut(board, &left, first_arrived, last_arrived), "format cut in epoch {at}");
+                self.format_boards += 1;
             }
             library::perform(&mut stands, epoch, epoch.len() as u64 / 2);
         }
@@ -304,15 +226,17 @@ impl Test {
     }
 
     fn report(&self) {
-        let tally = &self.tally;
-        println!("cuts: {} plans of write and length change, {} epochs, {} of them by all sets of their stores; {} plans of \
-                  format", self.plans, tally.epochs, tally.epochs_by_all_sets, self.formats);
+        let Tally { boards, epochs, epochs_by_all_sets, read_as_after } = self.tally;
+        println!(
+            "cuts: {} plans, {epochs} epochs, {epochs_by_all_sets} of them by all sets of their stores",
+            self.plans
+        );
         self.ways.report();
-        for (spoilt, how) in [(&self.no_barriers, "without their barriers"), (&self.commits_alone, "by the last store alone")] {
-            println!("plans {how}: {} of {} would show a false history, and are found", spoilt.found, spoilt.tried);
-        }
-        println!("cuts: {} boards tried, each accepted; every file wholly as before or wholly as after, as after on {} of \
-                  them", tally.boards, tally.read_as_after);
+        self.no_barriers.report("without their barriers");
+        self.commits_alone.report("by the last store alone");
+        println!("cuts: {} plans of format, {} boards, each as it must be", self.formats, self.format_boards);
+        println!("cuts: {boards} boards tried, each accepted, every file wholly as before or wholly as after");
+        println!("cuts: as after on {read_as_after} of them, those that the last planned store had reached");
     }
 }
 
@@ -321,7 +245,7 @@ fn main() {
     let (tally, ways) = (Tally::default(), Ways::default());
     let (no_barriers, commits_alone) = (Spoilt::default(), Spoilt::default());
     let random = Random::new(words.seed, 0);
-    let mut test = Test { random, tally, ways, plans: 0, formats: 0, no_barriers, commits_alone };
+    let mut test = Test { random, tally, ways, plans: 0, formats: 0, format_boards: 0, no_barriers, commits_alone };
     for round in words.rounds() {
         if test.tally.boards >= words.wanted {
             break;

@@ -57,7 +57,11 @@ fn count(random: &mut Random, size: u64, offset: u64) -> usize {
         5 => random.below(3000),
         _ => random.below(150),
     };
-    if wanted <= 33000 { wanted as usize } else { random.below(70) as usize }
+    if wanted <= 33000 {
+        wanted as usize
+    } else {
+        random.below(70) as usize
+    }
 }
 
 fn file(random: &mut Random, few: &[u64; 3]) -> u64 {

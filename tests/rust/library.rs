@@ -3,9 +3,8 @@
 extern "C" {
     fn montebeech_check(image: *const u8, image_len: usize) -> i64;
     fn montebeech_size(image: *const u8, image_len: usize, file: u64) -> i64;
-    fn montebeech_read(
-        image: *const u8, image_len: usize, file: u64, offset: u64, out: *mut u8, out_len: usize,
-    ) -> i64;
+    fn montebeech_read(image: *const u8, image_len: usize, file: u64, offset: u64, out: *mut u8, out_len: usize)
+        -> i64;
     fn montebeech_words_check(board: *const u64, board_len: usize) -> i64;
     fn montebeech_words_free_count(board: *const u64, board_len: usize) -> i64;
     fn montebeech_words_size(board: *const u64, board_len: usize, file: u64) -> i64;
@@ -61,7 +60,14 @@ pub fn write(board: &[u64], file: u64, offset: u64, bytes: &[u8], plan: &mut [u6
     let (board_len, bytes_len, plan_len) = (board.len(), bytes.len(), plan.len());
     unsafe {
         montebeech_words_write(
-            board.as_ptr(), board_len, file, offset, bytes.as_ptr(), bytes_len, plan.as_mut_ptr(), plan_len,
+            board.as_ptr(),
+            board_len,
+            file,
+            offset,
+            bytes.as_ptr(),
+            bytes_len,
+            plan.as_mut_ptr(),
+            plan_len,
         )
     }
 }

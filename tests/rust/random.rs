@@ -5,7 +5,8 @@ pub struct Random(u64);
 impl Random {
     /// Each round of a seed has numbers of its own, so that a round can be repeated by itself.
     pub fn new(seed: u64, round: u64) -> Random {
-        let mixed = (seed.wrapping_add(1).wrapping_mul(0x9E37_79B9_7F4A_7C15) ^ round).wrapping_mul(0xBF58_476D_1CE4_E5B9);
+        let mixed =
+            (seed.wrapping_add(1).wrapping_mul(0x9E37_79B9_7F4A_7C15) ^ round).wrapping_mul(0xBF58_476D_1CE4_E5B9);
         let mut random = Random((mixed ^ (mixed >> 29)) | 1);
         for _ in 0..8 {
             random.word();

@@ -1,5 +1,5 @@
-//! Which of document 01's ways a plan goes by, told from the lent board, the arguments and the last store, and how often
-//! each was met.
+//! Which of document 01's ways a plan goes by, told from the lent board, the arguments and the last store, and how
+//! often each was met.
 
 use crate::boards::{inode, SPAN};
 
@@ -51,7 +51,13 @@ impl Ways {
     pub fn set_length(&mut self, board: &[u64], file: u64, length: u64, plan: &[u64]) {
         if !plan.is_empty() {
             let larger = length > board[inode(board, file) + 1];
-            let way = if !larger { 4 } else if plan.len() > 2 { 5 } else { 6 };
+            let way = if !larger {
+                4
+            } else if plan.len() > 2 {
+                5
+            } else {
+                6
+            };
             self.met[way].0 += 1;
         }
     }

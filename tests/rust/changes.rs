@@ -1,0 +1,99 @@
+//! Random writes and length changes: the library's plan, and before and after as plain arrays of bytes.
+
+use support::boards::GREATEST;
+use support::library;
+use support::random::Random;
+use support::ways::Ways;
+
+pub const FILES: usize = 32;
+
+enum Asked {
+    /// Offset and bytes.
+    Write(u64, Vec<u8>),
+    Length(u64),
+}
+
+/// A plan, with what the change is to do.
+pub struct Change {
+    pub file: usize,
+    pub before: Vec<Vec<u8>>,
+    pub after: Vec<u8>,
+    pub plan: Vec<u64>,
+}
+
+/// What each file of an accepted board reads as.
+pub fn contents(board: &[u64]) -> Vec<Vec<u8>> {
+    let mut out = vec![0; GREATEST as usize + 1];
+    let read = |file| {
+        let count = library::read(board, file as u64, 0, &mut out);
+        assert!(count >= 0, "read of file {file} is refused {}", -count);
+        out[..count as usize].to_vec()
+    };
+    (0..FILES).map(read).collect()
+}
+
+/// Where a write begins and how many bytes it has, small ones more often.
+fn stretch(random: &mut Random, size: u64) -> (u64, usize) {
+    let offset = match random.below(4) {
+        0 => size,
+        1 => random.below(size + 1) / 8 * 8,
+        _ => random.below(size + 1),
+    };
+    let count = match random.below(6) {
+        0 => 1 + random.below(8 - offset % 8),
+        1 => 1 + random.below(2000),
+        2 => random.pick(&[64, 512, 4096, 32768]).max(offset + 1) - offset,
+        _ => 1 + random.below(100),
+    };
+    (offset, count as usize)
+}
+
+fn asked(random: &mut Random, size: u64) -> Asked {
+    if random.one_in(3) {
+        return Asked::Length(if random.one_in(2) { random.below(GREATEST + 1) } else { random.below(2 * size + 200) });
+    }
+    let (offset, count) = stretch(random, size);
+    Asked::Write(offset, random.bytes(count))
+}
+
+/// The file as a plain array of bytes, changed.
+fn after(before: &[u8], asked: &Asked) -> Vec<u8> {
+    let mut after = before.to_vec();
+    match asked {
+        Asked::Length(length) => after.resize(*length as usize, 0),
+        Asked::Write(offset, bytes) => {
+            let (start, end) = (*offset as usize, *offset as usize + bytes.len());
+            after.resize(before.len().max(end), 0);
+            after[start..end].copy_from_slice(bytes);
+        }
+    }
+    after
+}
+
+fn planned(board: &[u64], file: u64, asked: &Asked, ways: &mut Ways) -> Option<Vec<u64>> {
+    let mut plan = vec![0; 2 * board.len()];
+    let pairs = match asked {
+        Asked::Length(length) => library::set_length(board, file, *length, &mut plan),
+        Asked::Write(offset, bytes) => library::write(board, file, *offset, bytes, &mut plan),
+    };
+    if pairs <= 0 {
+        return None;
+    }
+    plan.truncate(2 * pairs as usize);
+    match asked {
+        Asked::Length(length) => ways.set_length(board, file, *length, &plan),
+        Asked::Write(offset, bytes) => ways.write(board, file, offset + bytes.len() as u64, &plan),
+    }
+    Some(plan)
+}
+
+/// A random write or length change that the library plans with at least one pair, or nothing.
+pub fn change(random: &mut Random, board: &[u64], ways: &mut Ways) -> Option<Change> {
+    let before = contents(board);
+    let most = random.pick(&[3, 3, 32]);
+    let file = random.below(most) as usize;
+    let asked = asked(random, before[file].len() as u64);
+    let plan = planned(board, file as u64, &asked, ways)?;
+    let after = after(&before[file], &asked);
+    Some(Change { file, before, after, plan })
+}
