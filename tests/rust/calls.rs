@@ -71,15 +71,16 @@ impl Calls {
         self.met[kind as usize][(-answer).max(0) as usize] += 1;
     }
 
-    /// `lent` is the board or image, which the library may not change.
+    /// `lent` is the board or image, which the library may not change. It gets a copy of just that length, so that
+    /// valgrind sees a read past it.
     fn same<T: Copy + From<u8> + PartialEq, L: Clone + PartialEq>(
-        &mut self, kind: Kind, said: Arguments, lent: &[L], content: &[T], ours: impl FnOnce(&mut [T]) -> i64,
+        &mut self, kind: Kind, said: Arguments, lent: &[L], content: &[T], ours: impl FnOnce(&[L], &mut [T]) -> i64,
         document: impl FnOnce(&mut [T]) -> Answer,
     ) -> (i64, Vec<T>) {
         let name = KINDS[kind as usize].0;
-        let before = lent.to_vec();
-        let (answer, left) = guarded(content, ours);
-        assert!(lent == before, "{name} {said}: the library stored to what it may only read");
+        let copy = lent.to_vec();
+        let (answer, left) = guarded(content, |out| ours(&copy, out));
+        assert!(lent == copy, "{name} {said}: the library stored to what it may only read");
         let mut other = content.to_vec();
         let expected = document::signed(document(&mut other));
         assert!(answer == expected, "{name} {said}: the library answers {answer}, docs/src {expected}");
@@ -93,54 +94,55 @@ impl Calls {
 
     pub fn check(&mut self, board: &[u64]) {
         let said = format_args!("of {} words", board.len());
-        self.same::<u8, _>(Kind::Check, said, board, &[], |_| library::check(board), |_| document::check(board));
+        let ours = |board: &[u64], _: &mut [u8]| library::check(board);
+        self.same(Kind::Check, said, board, &[], ours, |_| document::check(board));
     }
 
     pub fn free_count(&mut self, board: &[u64]) {
         let said = format_args!("of {} words", board.len());
-        let ours = |_: &mut [u8]| library::free_count(board);
+        let ours = |board: &[u64], _: &mut [u8]| library::free_count(board);
         self.same(Kind::FreeCount, said, board, &[], ours, |_| document::free_count(board));
     }
 
     pub fn size(&mut self, board: &[u64], file: u64) {
         let said = format_args!("of file {file}");
-        let ours = |_: &mut [u8]| library::size(board, file);
+        let ours = |board: &[u64], _: &mut [u8]| library::size(board, file);
         self.same(Kind::Size, said, board, &[], ours, |_| document::size(board, file));
     }
 
     pub fn read(&mut self, board: &[u64], file: u64, offset: u64, room: usize) {
         let said = format_args!("of file {file} at {offset} into {room} bytes");
         let content: Vec<u8> = filled(room).iter().map(|&word| word as u8).collect();
-        let ours = |out: &mut [u8]| library::read(board, file, offset, out);
+        let ours = |board: &[u64], out: &mut [u8]| library::read(board, file, offset, out);
         self.same(Kind::Read, said, board, &content, ours, |out| document::read(board, file, offset, out));
     }
 
     pub fn write(&mut self, board: &[u64], file: u64, offset: u64, bytes: &[u8], room: usize) -> (i64, Vec<u64>) {
         let said = format_args!("of {} bytes to file {file} at {offset}, {room} words of plan", bytes.len());
-        let before = bytes.to_vec();
-        let ours = |plan: &mut [u64]| library::write(board, file, offset, bytes, plan);
+        let copy = bytes.to_vec();
+        let ours = |board: &[u64], plan: &mut [u64]| library::write(board, file, offset, &copy, plan);
         let document = |plan: &mut [u64]| document::write(board, file, offset, bytes, plan);
         let done = self.same(Kind::Write, said, board, &filled(room), ours, document);
-        assert!(bytes == before, "write stored to the bytes that it was lent");
+        assert!(bytes == copy, "write stored to the bytes that it was lent");
         done
     }
 
     pub fn set_length(&mut self, board: &[u64], file: u64, length: u64, room: usize) -> (i64, Vec<u64>) {
         let said = format_args!("of file {file} to {length}, {room} words of plan");
-        let ours = |plan: &mut [u64]| library::set_length(board, file, length, plan);
+        let ours = |board: &[u64], plan: &mut [u64]| library::set_length(board, file, length, plan);
         let document = |plan: &mut [u64]| document::set_length(board, file, length, plan);
         self.same(Kind::SetLength, said, board, &filled(room), ours, document)
     }
 
     pub fn format(&mut self, board: &[u64], room: usize) -> (i64, Vec<u64>) {
         let said = format_args!("of {} words, {room} words of plan", board.len());
-        let ours = |plan: &mut [u64]| library::format(board, plan);
+        let ours = |board: &[u64], plan: &mut [u64]| library::format(board, plan);
         self.same(Kind::Format, said, board, &filled(room), ours, |plan| document::format(board, plan))
     }
 
     pub fn perform(&mut self, board: &[u64], plan: &[u64], pairs: u64) -> (i64, Vec<u64>) {
         let said = format_args!("of {pairs} pairs of {} words on {} words", plan.len(), board.len());
-        let ours = |lent: &mut [u64]| library::perform(lent, plan, pairs);
+        let ours = |plan: &[u64], lent: &mut [u64]| library::perform(lent, plan, pairs);
         self.same(Kind::Perform, said, plan, board, ours, |lent| document::perform(lent, plan, pairs))
     }
 
@@ -148,20 +150,20 @@ impl Calls {
 
     pub fn image_check(&mut self, image: &[u8]) {
         let said = format_args!("of {} bytes", image.len());
-        let ours = |_: &mut [u8]| library::image_check(image);
+        let ours = |image: &[u8], _: &mut [u8]| library::image_check(image);
         self.same(Kind::ImageCheck, said, image, &[], ours, |_| document::image_check(image));
     }
 
     pub fn image_size(&mut self, image: &[u8], file: u64) {
         let said = format_args!("of file {file}");
-        let ours = |_: &mut [u8]| library::image_size(image, file);
+        let ours = |image: &[u8], _: &mut [u8]| library::image_size(image, file);
         self.same(Kind::ImageSize, said, image, &[], ours, |_| document::image_size(image, file));
     }
 
     pub fn image_read(&mut self, image: &[u8], file: u64, offset: u64, room: usize) {
         let said = format_args!("of file {file} at {offset} into {room} bytes");
         let content: Vec<u8> = filled(room).iter().map(|&word| word as u8).collect();
-        let ours = |out: &mut [u8]| library::image_read(image, file, offset, out);
+        let ours = |image: &[u8], out: &mut [u8]| library::image_read(image, file, offset, out);
         let document = |out: &mut [u8]| document::image_read(image, file, offset, out);
         self.same(Kind::ImageRead, said, image, &content, ours, document);
     }

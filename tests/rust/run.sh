@@ -17,3 +17,8 @@ rustc "${flags[@]}" --extern support tests/rust/cuts.rs
 
 target/rust/differential "$seed" "$calls"
 target/rust/cuts "$seed" "$boards"
+
+# Some of the calls again, each read of the library's watched.
+valgrind -q --error-exitcode=1 target/rust/differential "$seed" 20000 1000 >target/rust/valgrind.log 2>&1 ||
+    { cat target/rust/valgrind.log; exit 1; }
+echo "$(tail -1 target/rust/valgrind.log), under valgrind: no read past what was lent"
