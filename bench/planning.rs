@@ -5,31 +5,7 @@ mod plain;
 
 use std::hint::black_box;
 use std::time::Instant;
-
-extern "C" {
-    fn montebeech_words_write(
-        board: *const u64, board_len: usize, file: u64, offset: u64, bytes: *const u8, bytes_len: usize, plan: *mut u64, plan_len: usize,
-    ) -> i64;
-    fn montebeech_words_set_length(board: *const u64, board_len: usize, file: u64, length: u64, plan: *mut u64, plan_len: usize) -> i64;
-    fn montebeech_words_format(board: *const u64, board_len: usize, plan: *mut u64, plan_len: usize) -> i64;
-    fn montebeech_words_perform(board: *mut u64, board_len: usize, plan: *const u64, plan_len: usize, pairs: u64) -> i64;
-}
-
-fn write(board: &[u64], file: u64, offset: u64, bytes: &[u8], plan: &mut [u64]) -> i64 {
-    unsafe { montebeech_words_write(board.as_ptr(), board.len(), file, offset, bytes.as_ptr(), bytes.len(), plan.as_mut_ptr(), plan.len()) }
-}
-
-fn set_length(board: &[u64], file: u64, length: u64, plan: &mut [u64]) -> i64 {
-    unsafe { montebeech_words_set_length(board.as_ptr(), board.len(), file, length, plan.as_mut_ptr(), plan.len()) }
-}
-
-fn format(board: &[u64], plan: &mut [u64]) -> i64 {
-    unsafe { montebeech_words_format(board.as_ptr(), board.len(), plan.as_mut_ptr(), plan.len()) }
-}
-
-fn perform(board: &mut [u64], plan: &[u64], pairs: u64) -> i64 {
-    unsafe { montebeech_words_perform(board.as_mut_ptr(), board.len(), plan.as_ptr(), plan.len(), pairs) }
-}
+use support::library::{format, perform, set_length, write};
 
 const WORDS: usize = 8192;
 const PLAN: usize = 12000;

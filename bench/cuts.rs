@@ -1,0 +1,63 @@
+//! Power cuts: what stands after any set of the stores of one epoch must read wholly as before or wholly as after.
+
+use crate::board::{read, Epochs, Files, Store};
+use support::random::Random;
+
+/// Up to so many stores in an epoch all sets are tried.
+const ALL: usize = 10;
+const SOME: usize = 100;
+
+/// Performs the epochs on the memory and answers the number of cuts tried, or what a cut left that is neither.
+pub fn tried(
+    memory: &mut [u64], epochs: &Epochs, recover: fn(&mut [u64]), before: &Files, after: &Files,
+) -> Result<u64, String> {
+    let mut cuts = 0;
+    for (number, epoch) in epochs.iter().enumerate() {
+        for set in sets(epoch.len()) {
+            let mut cut = memory.to_vec();
+            perform(&mut cut, epoch, |i| set[i]);
+            recover(&mut cut);
+            let found = read(&cut);
+            if found.as_ref() != Some(before) && found.as_ref() != Some(after) {
+                return Err(format!("a cut in epoch {number} of {} leaves something else", epochs.len()));
+            }
+            cuts += 1;
+        }
+        perform(memory, epoch, |_| true);
+    }
+    Ok(cuts)
+}
+
+/// The same, and what stands at the end must read as after without a recovery.
+pub fn performed(
+    memory: &mut [u64], epochs: &Epochs, recover: fn(&mut [u64]), before: &Files, after: &Files,
+) -> Result<u64, String> {
+    let cuts = tried(memory, epochs, recover, before, after)?;
+    match read(memory).as_ref() == Some(after) {
+        true => Ok(cuts),
+        false => Err("not as after at the end".to_string()),
+    }
+}
+
+pub fn perform(memory: &mut [u64], stores: &[Store], chosen: impl Fn(usize) -> bool) {
+    for (i, &(at, value)) in stores.iter().enumerate() {
+        if chosen(i) {
+            memory[at as usize] = value;
+        }
+    }
+}
+
+/// All sets of so many stores; of many, none, all, each one, all but each one, and some at random.
+fn sets(count: usize) -> Vec<Vec<bool>> {
+    if count <= ALL {
+        return (0..1usize << count).map(|set| (0..count).map(|i| set >> i & 1 == 1).collect()).collect();
+    }
+    let mut random = Random::new(1, 0);
+    let mut sets = vec![vec![false; count], vec![true; count]];
+    for one in 0..count {
+        sets.push((0..count).map(|i| i == one).collect());
+        sets.push((0..count).map(|i| i != one).collect());
+    }
+    sets.extend((0..SOME).map(|_| (0..count).map(|_| random.one_in(2)).collect()));
+    sets
+}
