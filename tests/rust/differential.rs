@@ -37,24 +37,24 @@ fn around_bounds() -> Vec<u64> {
 
 fn offset(random: &mut Random, size: u64) -> u64 {
     match random.below(11) {
-        10 => size.saturating_sub(1 + random.below(8)),
         0 | 1 => random.pick(&BOUNDS).wrapping_add(random.below(5)).wrapping_sub(2),
         2..=4 => size,
         5 => size.wrapping_add(random.below(5)).wrapping_sub(2),
         6 => random.below(size + 1) / 64 * 64,
         7 => random.below(size + 1) / 8 * 8,
+        8 => size.saturating_sub(1 + random.below(8)),
         _ => random.below(size + 1),
     }
 }
 
-/// The count of a write's bytes: small, to a bound of the tree, to the size, or any.
+/// The count of a write's bytes: small, to a bound of the tree, to the size, inside one word, or any.
 fn count(random: &mut Random, size: u64, offset: u64) -> usize {
     let wanted = match random.below(10) {
-        8 | 9 => 1 + random.below(8 - offset % 8),
         0 | 1 => random.pick(&[0, 1, 2, 6, 7, 8, 9, 24, 63, 64, 65]),
         2 | 3 => random.pick(&BOUNDS[1..5]).wrapping_sub(offset).wrapping_add(random.below(3)).wrapping_sub(1),
         4 => size.wrapping_sub(offset).wrapping_add(random.below(3)).wrapping_sub(1),
         5 => random.below(3000),
+        6 | 7 => 1 + random.below(8 - offset % 8),
         _ => random.below(150),
     };
     if wanted <= 33000 {
