@@ -14,29 +14,18 @@ import sys
 HERE = os.path.dirname(os.path.abspath(__file__))
 sys.path.insert(0, os.path.join(os.path.dirname(HERE), 'tests', 'reference'))
 import board as B
+from making import PLAN, accepted, formatted, image_of
 
-PLAN = [0] * 12000
 SCORES, METER, INITIALS, NOTES = 0, 1, 2, 3
 
 
 # ---- Accepted boards
 
 
-def done(words, planned):
-    count, plan = planned
-    assert count >= 0, 'refused %d' % -count
-    return B.perform(words, plan, count)[1]
-
-
-def formatted(blocks):
-    words = [0] * (8 * blocks)
-    return done(words, B.format_board(words, PLAN))
-
-
 def with_files(blocks, files):
-    words = formatted(blocks)
+    words = formatted([0] * (8 * blocks))
     for file, new in files:
-        words = done(words, B.write(words, file, 0, list(new), PLAN))
+        words = accepted(words, B.write(words, file, 0, list(new), PLAN))
     return words
 
 
@@ -132,10 +121,6 @@ DAMAGED = [
 
 
 # ---- Images
-
-
-def image_of(words):
-    return struct.pack('<%dQ' % len(words), *words)
 
 
 def wrong_sizes():

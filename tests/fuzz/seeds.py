@@ -12,34 +12,28 @@ import sys
 ROOT = os.path.dirname(os.path.dirname(os.path.dirname(os.path.abspath(__file__))))
 sys.path.insert(0, os.path.join(ROOT, 'tests', 'reference'))
 import board as B
+from making import PLAN, accepted, formatted, image_of
 
-PLAN = [0] * 12000
 SMALL = 4096
 GIVEN = 128
 # file, offset, length of the buffer
 REQUESTS = [(0, 0, 64), (1, 3, 600), (3, 60, 32768), (5, 500, 4200), (31, 0, 1), (32, 0, 9), (0, 2**64 - 1, 0)]
 
 
-def performed(words, planned):
-    count, plan = planned
-    assert count >= 0, 'refused %d' % -count
-    return B.perform(words, plan, count)[1]
-
-
-def formatted(blocks):
-    words = [8 * (i % blocks) for i in range(8 * blocks)]  # what was there before: pointers
-    return performed(words, B.format_board(words, PLAN))
+def empty(blocks):
+    """A formatted board over words that were pointers."""
+    return formatted([8 * (i % blocks) for i in range(8 * blocks)])
 
 
 def shapes(blocks, unit):
     """Every height, holes on each level, sizes above the span, a file shortened to nothing."""
-    words = formatted(blocks)
+    words = empty(blocks)
     for file, length in [(0, 2), (1, unit), (2, 65), (3, 300), (4, 8 * unit), (30, 70), (31, 3)]:
-        words = performed(words, B.write(words, file, 0, [(7 * i + file) % 256 for i in range(length)], PLAN))
+        words = accepted(words, B.write(words, file, 0, [(7 * i + file) % 256 for i in range(length)], PLAN))
     for file, length in [(1, 32768), (2, 20), (5, 700), (6, 32768), (7, 5000), (8, 32768), (30, 0)]:
-        words = performed(words, B.set_length(words, file, length, PLAN))
+        words = accepted(words, B.set_length(words, file, length, PLAN))
     for file, offset in [(5, 600), (6, 20000), (7, 4999)]:
-        words = performed(words, B.write(words, file, offset, [file], PLAN))
+        words = accepted(words, B.write(words, file, offset, [file], PLAN))
     return words
 
 
@@ -47,9 +41,9 @@ def images():
     for name in sorted(glob.glob(os.path.join(ROOT, 'examples', '*.img'))):
         with open(name, 'rb') as file:
             yield os.path.basename(name), file.read()
-    for name, words in [('formatted-16', formatted(16)), ('formatted-1024', formatted(1024)),
+    for name, words in [('formatted-16', empty(16)), ('formatted-1024', empty(1024)),
                         ('shapes-64', shapes(64, 8)), ('shapes-1024', shapes(1024, 64))]:
-        yield name, struct.pack('<%dQ' % len(words), *words)
+        yield name, image_of(words)
 
 
 def request(file, offset, length):

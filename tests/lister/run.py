@@ -7,7 +7,6 @@ Boards are made by the model's own calls: format, writes and length changes, pla
 """
 import os
 import random
-import struct
 import subprocess
 import sys
 import time
@@ -15,28 +14,18 @@ import time
 ROOT = os.path.dirname(os.path.dirname(os.path.dirname(os.path.abspath(__file__))))
 sys.path.insert(0, os.path.join(ROOT, 'tests', 'reference'))
 import board as B
+import making
+from making import PLAN, image_of, performed
 
 LISTER = os.path.join(ROOT, 'target', 'bin', 'lister')
 E13 = 'blocks 16 free 4\nfile 0 size 2 height 0 data 1\n'
-PLAN = [0] * 12000
 
 
 # ---- Boards
 
 
-def image_of(words):
-    return struct.pack('<%dQ' % len(words), *words)
-
-
-def performed(words, planned, pairs=None):
-    """The board after the plan, or after its first pairs; the same board where the call was refused."""
-    count, plan = planned
-    return B.perform(words, plan, count if pairs is None else pairs)[1] if count > 0 else words
-
-
 def formatted(rnd, count):
-    words = [rnd.getrandbits(64) for _ in range(8 * count)]
-    return performed(words, B.format_board(words, PLAN))
+    return making.formatted([rnd.getrandbits(64) for _ in range(8 * count)])
 
 
 def write(words, file, offset, new):
