@@ -90,31 +90,45 @@ impl Calls {
         (answer, left)
     }
 
+    /// A call that is lent nothing to write to.
+    fn same_answer<L: Clone + PartialEq>(
+        &mut self, kind: Kind, said: Arguments, lent: &[L], ours: impl FnOnce(&[L]) -> i64,
+        document: impl FnOnce(&[L]) -> Answer,
+    ) {
+        self.same::<u8, L>(kind, said, lent, &[], |lent, _| ours(lent), |_| document(lent));
+    }
+
+    /// A read into a buffer of so many bytes.
+    fn same_read<L: Clone + PartialEq>(
+        &mut self, kind: Kind, lent: &[L], (file, offset, room): (u64, u64, usize),
+        ours: fn(&[L], u64, u64, &mut [u8]) -> i64, document: fn(&[L], u64, u64, &mut [u8]) -> Answer,
+    ) {
+        let said = format_args!("of file {file} at {offset} into {room} bytes");
+        let content: Vec<u8> = filled(room).iter().map(|&word| word as u8).collect();
+        let ours = |lent: &[L], out: &mut [u8]| ours(lent, file, offset, out);
+        self.same(kind, said, lent, &content, ours, |out| document(lent, file, offset, out));
+    }
+
     // ---- On words
 
     pub fn check(&mut self, board: &[u64]) {
         let said = format_args!("of {} words", board.len());
-        let ours = |board: &[u64], _: &mut [u8]| library::check(board);
-        self.same(Kind::Check, said, board, &[], ours, |_| document::check(board));
+        self.same_answer(Kind::Check, said, board, library::check, document::check);
     }
 
     pub fn free_count(&mut self, board: &[u64]) {
         let said = format_args!("of {} words", board.len());
-        let ours = |board: &[u64], _: &mut [u8]| library::free_count(board);
-        self.same(Kind::FreeCount, said, board, &[], ours, |_| document::free_count(board));
+        self.same_answer(Kind::FreeCount, said, board, library::free_count, document::free_count);
     }
 
     pub fn size(&mut self, board: &[u64], file: u64) {
-        let said = format_args!("of file {file}");
-        let ours = |board: &[u64], _: &mut [u8]| library::size(board, file);
-        self.same(Kind::Size, said, board, &[], ours, |_| document::size(board, file));
+        let (ours, document) =
+            (|board: &[u64]| library::size(board, file), |board: &[u64]| document::size(board, file));
+        self.same_answer(Kind::Size, format_args!("of file {file}"), board, ours, document);
     }
 
     pub fn read(&mut self, board: &[u64], file: u64, offset: u64, room: usize) {
-        let said = format_args!("of file {file} at {offset} into {room} bytes");
-        let content: Vec<u8> = filled(room).iter().map(|&word| word as u8).collect();
-        let ours = |board: &[u64], out: &mut [u8]| library::read(board, file, offset, out);
-        self.same(Kind::Read, said, board, &content, ours, |out| document::read(board, file, offset, out));
+        self.same_read(Kind::Read, board, (file, offset, room), library::read, document::read);
     }
 
     pub fn write(&mut self, board: &[u64], file: u64, offset: u64, bytes: &[u8], room: usize) -> (i64, Vec<u64>) {
@@ -150,22 +164,17 @@ impl Calls {
 
     pub fn image_check(&mut self, image: &[u8]) {
         let said = format_args!("of {} bytes", image.len());
-        let ours = |image: &[u8], _: &mut [u8]| library::image_check(image);
-        self.same(Kind::ImageCheck, said, image, &[], ours, |_| document::image_check(image));
+        self.same_answer(Kind::ImageCheck, said, image, library::image_check, document::image_check);
     }
 
     pub fn image_size(&mut self, image: &[u8], file: u64) {
-        let said = format_args!("of file {file}");
-        let ours = |image: &[u8], _: &mut [u8]| library::image_size(image, file);
-        self.same(Kind::ImageSize, said, image, &[], ours, |_| document::image_size(image, file));
+        let ours = |image: &[u8]| library::image_size(image, file);
+        let document = |image: &[u8]| document::image_size(image, file);
+        self.same_answer(Kind::ImageSize, format_args!("of file {file}"), image, ours, document);
     }
 
     pub fn image_read(&mut self, image: &[u8], file: u64, offset: u64, room: usize) {
-        let said = format_args!("of file {file} at {offset} into {room} bytes");
-        let content: Vec<u8> = filled(room).iter().map(|&word| word as u8).collect();
-        let ours = |image: &[u8], out: &mut [u8]| library::image_read(image, file, offset, out);
-        let document = |out: &mut [u8]| document::image_read(image, file, offset, out);
-        self.same(Kind::ImageRead, said, image, &content, ours, document);
+        self.same_read(Kind::ImageRead, image, (file, offset, room), library::image_read, document::image_read);
     }
 
     /// What the lister printed, beside what it should print.

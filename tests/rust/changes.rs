@@ -70,21 +70,19 @@ fn after(before: &[u8], asked: &Asked) -> Vec<u8> {
     after
 }
 
-fn planned(board: &[u64], file: u64, asked: &Asked, ways: &mut Ways) -> Option<Vec<u64>> {
+/// The library's answer, and the pairs that it counts.
+fn planned(board: &[u64], file: u64, asked: &Asked, ways: &mut Ways) -> (i64, Vec<u64>) {
     let mut plan = vec![0; 2 * board.len()];
     let pairs = match asked {
         Asked::Length(length) => library::set_length(board, file, *length, &mut plan),
         Asked::Write(offset, bytes) => library::write(board, file, *offset, bytes, &mut plan),
     };
-    if pairs <= 0 {
-        return None;
-    }
-    plan.truncate(2 * pairs as usize);
+    plan.truncate(2 * pairs.max(0) as usize);
     match asked {
         Asked::Length(length) => ways.set_length(board, file, *length, &plan),
         Asked::Write(offset, bytes) => ways.write(board, file, offset + bytes.len() as u64, &plan),
     }
-    Some(plan)
+    (pairs, plan)
 }
 
 /// A random write or length change that the library plans with at least one pair, or nothing.
@@ -93,7 +91,8 @@ pub fn change(random: &mut Random, board: &[u64], ways: &mut Ways) -> Option<Cha
     let most = random.pick(&[3, 3, 32]);
     let file = random.below(most) as usize;
     let asked = asked(random, before[file].len() as u64);
-    let plan = planned(board, file as u64, &asked, ways)?;
-    let after = after(&before[file], &asked);
-    Some(Change { file, before, after, plan })
+    let (pairs, plan) = planned(board, file as u64, &asked, ways);
+    let after = if pairs < 0 { before[file].clone() } else { after(&before[file], &asked) };
+    assert!(!plan.is_empty() || after == before[file], "an accepted change without a plan");
+    (!plan.is_empty()).then_some(Change { file, before, after, plan })
 }

@@ -49,8 +49,8 @@ fn fault(board: &[u64], change: &Change, last_arrived: bool) -> Option<String> {
     for file in 0..FILES {
         let expected = if file == change.file && last_arrived { &change.after } else { &change.before[file] };
         if now[file] != *expected {
-            let shows = if now[file] == change.after { "after" } else { "neither before nor after" };
-            return Some(format!("file {file} of a change of file {} reads as {shows}", change.file));
+            let as_before = if now[file] == change.before[file] { "as before" } else { "not as before" };
+            return Some(format!("in a change of file {} file {file} reads {as_before}", change.file));
         }
     }
     None

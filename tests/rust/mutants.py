@@ -1,5 +1,6 @@
 #!/usr/bin/env python3
-"""Shows that the differential test finds faults: each edit below makes docs/src wrong in one point, and the test must fail on it.
+"""Shows that the differential test finds faults: each edit below makes docs/src wrong in one point, and the test must fail on it. On
+docs/src as it is, built in the same way, the test must pass.
 
     mutants.py [CALLS]    at most so many calls for each edit (default 300,000); tests/rust/run.sh has built what is needed
 """
@@ -15,6 +16,7 @@ BUILT = os.path.join(ROOT, 'target', 'rust')
 FLAGS = ['--edition', '2021', '-C', 'opt-level=1', '-A', 'warnings', '-L', 'native=' + os.path.join(ROOT, 'target', 'staticlib')]
 
 # What is wrong, the file, the text there and what stands for it.
+UNCHANGED = ('as it is', 'lib', '', '')
 EDITS = [
     ('120 words are enough', 'board', '(128..=8_192)', '(120..=8_192)'),
     ('words 4 to 7 of the trailer are not looked at', 'board', 'trailer[1..] == trailer_rest(board)', 'trailer[1..4] == trailer_rest(board)[..3]'),
@@ -60,29 +62,33 @@ def edited(folder, file, old, new):
     path = os.path.join(folder, 'src', file + '.rs')
     with open(path) as source:
         text = source.read()
-    assert text.count(old) == 1, 'no such place, or more than one: ' + old
+    assert old == new or text.count(old) == 1, 'no such place, or more than one: ' + old
     with open(path, 'w') as out:
         out.write(text.replace(old, new))
 
 
-def found(number, calls):
-    """What the test says of edit number, or None where it passes."""
-    what, file, old, new = EDITS[number]
+def found(number, edit, calls):
+    """Where the test fails after the edit, or None where it passes."""
+    what, file, old, new = edit
     folder = os.path.join(BUILT, 'mutants', str(number))
     edited(folder, file, old, new)
     rustc(folder, '--crate-type', 'rlib', '--crate-name', 'document', os.path.join(folder, 'src', 'lib.rs'))
     wrong, support = os.path.join(folder, 'libdocument.rlib'), os.path.join(BUILT, 'libsupport.rlib')
     rustc(folder, '--extern', 'document=' + wrong, '--extern', 'support=' + support, 'tests/rust/differential.rs')
     test = subprocess.run([os.path.join(folder, 'differential'), '1', str(calls)], capture_output=True, text=True, cwd=ROOT)
-    said = re.search(r'round (\d+); to repeat', test.stderr)
     shutil.rmtree(folder)
-    return None if test.returncode == 0 or said is None else 'round ' + said.group(1)
+    if test.returncode == 0:
+        return None
+    said = re.search(r'round \d+(?=; to repeat)', test.stderr)
+    assert said, what + ': the test fails in no round:\n' + test.stderr
+    return said.group()
 
 
 def main():
     calls = int(sys.argv[1]) if len(sys.argv) > 1 else 300000
     with concurrent.futures.ThreadPoolExecutor(2) as pool:
-        results = list(pool.map(lambda number: found(number, calls), range(len(EDITS))))
+        unchanged, *results = pool.map(lambda edit: found(edit[0], edit[1], calls), enumerate([UNCHANGED] + EDITS))
+    assert unchanged is None, 'docs/src as it is fails in ' + str(unchanged)
     for (what, *_), result in zip(EDITS, results):
         print('%-58s %s' % (what, result or 'NOT FOUND'))
     assert None not in results, 'an edit was not found'
