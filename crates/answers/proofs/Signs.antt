@@ -7,7 +7,7 @@ use mir.Syntax.{w64}
 use mir.Val.{SFits, toZ, ofZ}
 use mir.Facts.{toZ-pos, toZ-ofZ}
 use Rattle.model.specs.declared.Fault.{Fault}
-use Rattle.model.specs.declared.Fault.the-variants.{WordCount, Trailer, Damaged, FileNumber, Offset, End, FreeBlocks, PlanLength, PairCount, Address}
+use Rattle.model.specs.declared.Fault.the-variants.{WordCount, Trailer, Damaged, FileNumber, End, FreeBlocks, PlanLength, PairCount, Address}
 use Rattle.model.specs.declared.Answer.{Answer}
 use Rattle.model.specs.declared.Answer.the-variants.{Done, Refused}
 use Rattle.model.specs.Answers.{number, signed, counted}
@@ -18,7 +18,6 @@ number-small WordCount = omega arith
 number-small Trailer = omega arith
 number-small Damaged = omega arith
 number-small FileNumber = omega arith
-number-small Offset = omega arith
 number-small End = omega arith
 number-small FreeBlocks = omega arith
 number-small PlanLength = omega arith

@@ -14,7 +14,6 @@ pub fn number(fault: Fault) -> u64
         Fault::Trailer => 2,
         Fault::Damaged => 3,
         Fault::FileNumber => 4,
-        Fault::Offset => 5,
         Fault::End => 6,
         Fault::FreeBlocks => 7,
         Fault::PlanLength => 8,

@@ -10,7 +10,7 @@ use lib.Dec.{leb, ltb, eqb, T}
 use borrow.Author.Tests.{leb-false, not-false}
 use Rattle.model.specs.declared.Answer.the-variants.{Refused}
 use Rattle.model.specs.declared.Fault.{Fault}
-use Rattle.model.specs.declared.Fault.the-variants.{WordCount, Trailer, Damaged, FileNumber, Offset, End, FreeBlocks, PairCount, PlanLength, Address}
+use Rattle.model.specs.declared.Fault.the-variants.{WordCount, Trailer, Damaged, FileNumber, End, FreeBlocks, PairCount, PlanLength, Address}
 use Rattle.model.specs.Lists.{tabulate, every, all, pickFrom, member, distinct}
 use Rattle.model.specs.Layout.{Layout, Fits, files}
 use Rattle.model.specs.Board.{trailerWord, greatest, blockCount, inodeBlock, leaf, size, contents, fileBlocks, liveBlocks, free, inRange, wordCountSound, trailerSound, leafSound, fileSound, treesSound, accepted}
@@ -223,12 +223,12 @@ module _ (g : Layout) (fit : Fits g) {b b′ : List ℕ} (same : Alike (g .words
     write-alike : (o : ℕ) (new slice : List ℕ) → write g b f o new slice ≡ write g b′ f o new slice
     unfolding write writeFaults
     write-alike o new slice =
-        let faults : ℕ → ℕ → Plan → Faults = λ s room p. (Offset, ltb s o) ∷ (End, ltb (greatest g) (o + length new)) ∷ (FreeBlocks, ltb room (p .taken)) ∷ [] in
+        let faults : ℕ → Plan → Faults = λ room p. (End, ltb (greatest g) (o + length new)) ∷ (FreeBlocks, ltb room (p .taken)) ∷ [] in
         let p : Plan = writePlan g (lowest g b) b f o new in
         let p′ : Plan = writePlan g (lowest g b′) b′ f o new in
         planned-alike (fileFaults g b f) (fileFaults g b′ f) (file-verdict f)
-        (faults (size g b f) (length (free g b)) p) (faults (size g b′ f) (length (free g b′)) p′) (pairs p) (pairs p′) slice
-        (λ q t. faults (sizes-alike q t) (length (free-alike (q .0) t)) (write-plans q o new t)) (λ q t. pairs (write-plans q o new t))
+        (faults (length (free g b)) p) (faults (length (free g b′)) p′) (pairs p) (pairs p′) slice
+        (λ q t. faults (length (free-alike (q .0) t)) (write-plans q o new t)) (λ q t. pairs (write-plans q o new t))
 
     set-length-alike : (n : ℕ) (slice : List ℕ) → setLength g b f n slice ≡ setLength g b′ f n slice
     unfolding setLength

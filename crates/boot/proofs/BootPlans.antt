@@ -11,14 +11,14 @@ use lib.ListN.{length, getD, replicate}
 use lib.Dec.{leb, ltb, eqb}
 use Rattle.model.specs.declared.WalkEnd.{WalkEnd}
 use Rattle.model.specs.declared.WalkEnd.the-variants.{Block, Hole}
-use Rattle.model.specs.Lists.{joined, choose, concat}
+use Rattle.model.specs.Lists.{joined, sum, choose, concat}
 use Rattle.model.specs.Words.{byteOf, wordOf}
 use Rattle.model.specs.Layout.{Layout}
 use Rattle.model.specs.Tree.{live, seen, ending, span, least, cell}
 use Rattle.model.specs.Board.{blockCount, trailer, inodeBlock, inodePointer, leaf, rootAddress, sizeAddress, root, size, walkTo}
 use Rattle.model.specs.Store.{Store, store, performed}
 use Rattle.model.specs.Plan.{Plan, plan, step, planEpochs, afterwards}
-use Rattle.model.specs.Fresh.{Page, splice, part, partLength, needBefore, dataPage, stored, freshPointer, pointerPage, build}
+use Rattle.model.specs.Fresh.{Page, splice, part, partLength, touched, freshNeed, freshBefore, dataPage, stored, freshPointer, pointerPage, build}
 use Rattle.model.specs.InPlace.{atBlock, tailBefore, walkLive, tailPages, tailWords, hooked, inPlace}
 use Rattle.model.specs.Change.{levels, levelTop, growthTo, growth, splicedWord, singleBlock, singleWord, isTail, emptyTail, tail, Shadow, descend, shadowInside, leafPage, shadowWithLength, chosenWay, writePlan, cleared, lengthPlan}
 use Rattle.model.proofs.Perform.{All, all-append, length-performed, performed-away, blocks-differ, stored-blocks}
@@ -69,21 +69,30 @@ module _ (W : ℕ) {b b′ : List ℕ} (same : Alike W b b′) where
       λ t. joined W (λ j. in-place-alike hook h (cell-alike W same (suc k) j (omega arith) t / W) (suc n - j * span W h) (part (span W h) j (suc n) new)
       (c + tailBefore W h (suc n) (length new) j) (W * suc k + j) t)
 
+  need-alike : (h k n o l : ℕ) → freshNeed W b h k n o l ≡ freshNeed W b′ h k n o l
+  unfolding freshNeed
+  need-alike zero k n o l = refl
+  need-alike (suc h) k n o l = λ t. cond (touched W (suc h) k n o l)
+      (suc (sum W (λ j. need-alike h (link-alike W same k j t / W) (n - j * span W h) (o - j * span W h) (partLength (span W h) j o l) t))) 0
+
+  before-alike : (h k n o l j : ℕ) → freshBefore W b h k n o l j ≡ freshBefore W b′ h k n o l j
+  unfolding freshBefore
+  before-alike h k n o l j = λ t. sum j (λ i. need-alike h (link-alike W same k i t / W) (n - i * span W h) (o - i * span W h) (partLength (span W h) i o l) t)
+
   module _ (fresh : ℕ → ℕ) where
     pointer-page-alike : (h k n o l c : ℕ) → pointerPage W fresh b h k n o l c ≡ pointerPage W fresh b′ h k n o l c
     unfolding pointerPage
-    pointer-page-alike h k n o l c = λ t j. choose (partLength (span W h) j o l) (seen (n - j * span W h) (link-alike W same k j t))
-        (freshPointer W fresh h (o - j * span W h) (partLength (span W h) j o l) (c + needBefore W h o l j))
+    pointer-page-alike h k n o l c = λ t j.
+        let m : ℕ = need-alike h (link-alike W same k j t / W) (n - j * span W h) (o - j * span W h) (partLength (span W h) j o l) t in
+        choose m (seen (n - j * span W h) (link-alike W same k j t)) (W * fresh (c + before-alike h k n o l j t + m - 1))
 
     build-alike : (h k n o : ℕ) (new : List ℕ) (c : ℕ) → build W fresh b h k n o new c ≡ build W fresh b′ h k n o new c
     unfolding build
-    build-alike zero k n o [] c = refl
-    build-alike zero k n o (x ∷ new) c = λ t. data-alike k n o (x ∷ new) t ∷ []
-    build-alike (suc h) k n o [] c = refl
-    build-alike (suc h) k n o (x ∷ new) c =
-        λ t. joined W (λ j. build-alike h (link-alike W same k j t / W) (n - j * span W h) (o - j * span W h) (part (span W h) j o (x ∷ new))
-        (c + needBefore W h o (suc (length new)) j) t)
-        ++ (pointer-page-alike h k n o (suc (length new)) c t ∷ [])
+    build-alike zero k n o new c = λ t. cond (touched W zero k n o (length new)) (data-alike k n o new t ∷ []) []
+    build-alike (suc h) k n o new c =
+        λ t. cond (touched W (suc h) k n o (length new)) (joined W (λ j. build-alike h (link-alike W same k j t / W) (n - j * span W h) (o - j * span W h) (part (span W h) j o new)
+        (c + before-alike h k n o (length new) j t) t)
+        ++ (pointer-page-alike h k n o (length new) c t ∷ [])) []
 
     tail-pages-alike : (h k n : ℕ) (new : List ℕ) (c : ℕ) → tailPages W b fresh h k n new c ≡ tailPages W b′ fresh h k n new c
     unfolding tailPages
@@ -140,8 +149,8 @@ module _ (g : Layout) {b b′ : List ℕ} (same : Alike (g .words) b b′) {f : 
 
   is-tail-alike : (o : ℕ) → isTail g b f o ≡ isTail g b′ f o
   unfolding isTail
-  is-tail-alike o = λ t. eqb o (sizes t)
-      && (not (live (sizes t)) || atBlock (walk-live-alike (g .words) same (root-word t % g .words) (root-word t / g .words) (sizes t) t))
+  is-tail-alike o = λ t. not (live (sizes t))
+      || eqb o (sizes t) && atBlock (walk-live-alike (g .words) same (root-word t % g .words) (root-word t / g .words) (sizes t) t)
 
   cleared-alike : (s n : ℕ) → cleared g b f s n ≡ cleared g b′ f s n
   unfolding cleared
@@ -168,18 +177,18 @@ module _ (g : Layout) {b b′ : List ℕ} (same : Alike (g .words) b b′) {f : 
     growth-alike e =
         λ t. cond (live (sizes t) && ltb (span (g .words) (root-word t % g .words)) e) (growth-to-alike (least (g .words) (g .height) e) t) (plan [] 0)
 
-    empty-tail-alike : (new : List ℕ) (c : ℕ) → emptyTail g fresh b f new c ≡ emptyTail g fresh b′ f new c
+    empty-tail-alike : (o : ℕ) (new : List ℕ) (c : ℕ) → emptyTail g fresh b f o new c ≡ emptyTail g fresh b′ f o new c
     unfolding emptyTail
-    empty-tail-alike new c = λ t.
-        let h : ℕ = least (g .words) (g .height) (length new) in
-        let ps : List Page = build-alike (g .words) same fresh h 0 0 0 new c t in
-        let hook : Store = store (address t) (freshPointer (g .words) fresh h 0 (length new) c + h) in
-        plan (step (stored (g .words) fresh ps c ++ (hook ∷ [])) (size-address t) (length new) ∷ []) (c + length ps)
+    empty-tail-alike o new c = λ t.
+        let h : ℕ = least (g .words) (g .height) (o + length new) in
+        let ps : List Page = build-alike (g .words) same fresh h 0 0 o new c t in
+        let hook : Store = store (address t) (freshPointer (g .words) fresh h o (length new) c + h) in
+        plan (step (stored (g .words) fresh ps c ++ (hook ∷ [])) (size-address t) (o + length new) ∷ []) (c + length ps)
 
-    tail-alike : (s : ℕ) (new : List ℕ) (c : ℕ) → tail g fresh b f s new c ≡ tail g fresh b′ f s new c
+    tail-alike : (s o : ℕ) (new : List ℕ) (c : ℕ) → tail g fresh b f s o new c ≡ tail g fresh b′ f s o new c
     unfolding tail
-    tail-alike zero new c = empty-tail-alike new c
-    tail-alike (suc s) new c = λ t.
+    tail-alike zero o new c = empty-tail-alike o new c
+    tail-alike (suc s) o new c = λ t.
         let h : ℕ = root-word t % g .words in
         let k : ℕ = root-word t / g .words in
         let ps : List Page = tail-pages-alike (g .words) same fresh h k (suc s) new c t in
@@ -214,7 +223,7 @@ module _ (g : Layout) {b b′ : List ℕ} (same : Alike (g .words) b b′) {f : 
     unfolding chosenWay Off
     chosen-way-alike (Block k) off o new c = single-word-alike k o new c off
     chosen-way-alike Hole off o new c = λ t.
-        cond (is-tail-alike o t) (tail-alike (sizes t) new c t)
+        cond (is-tail-alike o t) (tail-alike (sizes t) o new c t)
         (cond (leb (o + length new) (sizes t)) (shadow-inside-alike o new c t) (shadow-with-length-alike o new c t))
 
     way-alike : (o e : ℕ) (new : List ℕ) (c : ℕ) → chosenWay g fresh b f (singleBlock g b f o e) o new c ≡ chosenWay g fresh b′ f (singleBlock g b′ f o e) o new c

@@ -1,6 +1,7 @@
 -- Fresh trees as they are laid: the pages of a pointer block's children one after another, then its own.
 use mathlib.Core.Path.{_≡_, refl, sym, ap, _∙_}
 use mathlib.Core.Logic.{_≢_, inl, inr}
+use mathlib.Core.Bool.{true, false}
 use mathlib.Core.List.{List, [], _∷_, _++_}
 use Prim.Native.Nat.{ℕ, zero, suc, _+_, _-_, _*_, _/_, _^_, _≤_, _<_}
 use native.Mathlib.Omega.{arith}
@@ -9,28 +10,16 @@ use lib.ListN.{length, getD, set, length-set, getD-replicate}
 use lib.Seq.{getD-set-same, getD-set-other}
 use Rattle.model.specs.Lists.{joined}
 use Rattle.model.specs.Tree.{seen, span, link}
-use Rattle.model.specs.Fresh.{Page, part, partLength, need, needBefore, dataPage, freshPointer, pointerPage, build}
+use Rattle.model.specs.Fresh.{Page, part, touched, freshNeed, freshBefore, dataPage, pointerPage, build}
 use Rattle.model.proofs.Cases.{decide, length-joined}
 use Rattle.model.proofs.Agree.{seen-live, seen-dead}
 use Rattle.model.proofs.Splice.{length-part, choose-zero, choose-pos}
-use Rattle.model.proofs.Built.{kid, kid-lengths, length-build, need-pos, need-suc, room}
+use Rattle.model.proofs.Paths.{kidNeed, fresh-node}
+use Rattle.model.proofs.Built.{kid, kid-lengths, build-none, build-data, build-node, length-build, room}
 use Rattle.building.specs.Taking.{taking, Took}
 use Rattle.building.proofs.Taken as Taken
 
 -- ---- What is built
-
-pub built-none : (fresh : ℕ → ℕ) (b : List ℕ) (h k n o : ℕ) (new : List ℕ) (c : ℕ) → length new ≡ 0 → build 8 fresh b h k n o new c ≡ []
-unfolding build
-built-none fresh b zero k n o [] c e = refl
-built-none fresh b (suc h) k n o [] c e = refl
-built-none fresh b zero k n o (x ∷ new) c e = absurd (omega arith)
-built-none fresh b (suc h) k n o (x ∷ new) c e = absurd (omega arith)
-
-pub built-data : (fresh : ℕ → ℕ) (b : List ℕ) (h k n o : ℕ) (new : List ℕ) (c : ℕ) → length new ≢ 0 → h ≡ 0 → build 8 fresh b h k n o new c ≡ dataPage 8 b k n o new ∷ []
-unfolding build
-built-data fresh b zero k n o [] c some e = absurd (some refl)
-built-data fresh b zero k n o (x ∷ new) c some e = refl
-built-data fresh b (suc h) k n o new c some e = absurd (omega arith)
 
 -- a block has words
 pub positive : 0 < 8
@@ -45,12 +34,14 @@ module _ (free b : List ℕ) (h k n o : ℕ) (new : List ℕ) (c : ℕ) where
   abbrev pub pointers : Page
   pointers = pointerPage 8 (taking free) b h k n o (length new) c
 
-pub built-tree : (free b : List ℕ) (h k n o : ℕ) (new : List ℕ) (c : ℕ) → length new ≢ 0 → h ≢ 0
+pub built-data : (fresh : ℕ → ℕ) (b : List ℕ) (h k n o : ℕ) (new : List ℕ) (c : ℕ) → touched 8 h k n o (length new) ≡ true → h ≡ 0 → build 8 fresh b h k n o new c ≡ dataPage 8 b k n o new ∷ []
+built-data fresh b zero k n o new c t e = build-data 8 positive b fresh k n o new c t
+built-data fresh b (suc h) k n o new c t e = absurd (omega arith)
+
+pub built-tree : (free b : List ℕ) (h k n o : ℕ) (new : List ℕ) (c : ℕ) → touched 8 h k n o (length new) ≡ true → h ≢ 0
     → joined 8 (child free b (h - 1) k n o new c) ++ (pointers free b (h - 1) k n o new c ∷ []) ≡ build 8 (taking free) b h k n o new c
-unfolding build
-built-tree free b h k n o [] c some tall = absurd (some refl)
-built-tree free b zero k n o (x ∷ new) c some tall = absurd (tall refl)
-built-tree free b (suc h) k n o (x ∷ new) c some tall = rw (sub-one (suc h))
+built-tree free b zero k n o new c t tall = absurd (tall refl)
+built-tree free b (suc h) k n o new c t tall = rw (sub-one (suc h)) (sym (build-node 8 positive b (taking free) h k n o new c t))
 
 -- The pages of the children before j are laid, and the pointers before j stand in the page, 0 after them
 pub record Children (free b : List ℕ) (h k n o : ℕ) (new plan₀ : List ℕ) (base c j : ℕ) (plan page : List ℕ) (taken : ℕ) : Type 0 where
@@ -67,7 +58,7 @@ module _ {free b : List ℕ} {h k n o : ℕ} {new plan : List ℕ} {base c : ℕ
 module _ {free b : List ℕ} {h k n o : ℕ} {new plan₀ : List ℕ} {base c j : ℕ} {plan page : List ℕ} {taken : ℕ}
     (t : Children free b h k n o new plan₀ base c j plan page taken) where
   -- how many blocks are taken
-  pub taken-before : taken ≡ c + needBefore 8 h o (length new) j
+  pub taken-before : taken ≡ c + freshBefore 8 b h k n o (length new) j
   taken-before = omega (arith, t .took .next, length-joined j (child free b h k n o new c), kid-lengths 8 positive b (taking free) h k n o new c j)
 
   -- a turn by which the page changes at j alone
@@ -90,67 +81,61 @@ module _ {free b : List ℕ} {h k n o : ℕ} {new plan₀ : List ℕ} {base c j 
         → Children free b h k n o new plan₀ base c (j + 1) plan′ (set page j v) taken′
     turn-set {v = v} u e = turn u (length-set page j v ∙ t .width) (getD-set-same page j v 0 (omega (arith, t .width)) ∙ e) (λ i z. getD-set-other page j i v 0 z)
 
-    module _ {s x : ℕ} {own : List ℕ} (es : s ≡ span 8 h) (eo : own ≡ part s j o new) (ex : x ≡ link 8 b k j) where
-      own-length : length own ≡ partLength (span 8 h) j o (length new)
-      own-length = ap length eo ∙ rw es (length-part (span 8 h) j o new)
+    -- child j is laid, and took some blocks or none
+    module _ {s x m o′ : ℕ} {own plan′ : List ℕ} {taken′ : ℕ} (es : s ≡ span 8 h) (eo : own ≡ part s j o new) (ex : x ≡ link 8 b k j) (em : m ≡ n - j * s) (eo′ : o′ ≡ o - j * s)
+        (u : Took free plan base taken (build 8 (taking free) b h (x / 8) m o′ own taken) plan′ taken′) where
+      same : build 8 (taking free) b h (x / 8) m o′ own taken ≡ child free b h k n o new c j
+      same = cc (taken-before)
 
-      -- nothing is laid for a child with no written byte, and its pointer is the old one
-      nothing : length own ≡ 0 → Took free plan base taken (child free b h k n o new c j) plan taken
-      nothing none = Taken.same-pages (sym (built-none (taking free) b h (link 8 b k j / 8) (n - j * span 8 h) (o - j * span 8 h) (part (span 8 h) j o new)
-          (c + needBefore 8 h o (length new) j) (length-part (span 8 h) j o new ∙ sym own-length ∙ none))) Taken.none
+      count : taken′ ≡ taken + kidNeed 8 b h k n o (length new) j
+      count = omega (
+        arith,
+        u .next,
+        ap length same,
+        length-build 8 positive b (taking free) h (link 8 b k j / 8) (n - j * span 8 h) (o - j * span 8 h) (part (span 8 h) j o new) (c + freshBefore 8 b h k n o (length new) j),
+        ap (freshNeed 8 b h (link 8 b k j / 8) (n - j * span 8 h) (o - j * span 8 h)) (length-part (span 8 h) j o new),
+      )
 
-      old : length own ≡ 0 → pointers free b h k n o new c j ≡ seen (n - j * span 8 h) (link 8 b k j)
+      old : taken′ ≡ taken → pointers free b h k n o new c j ≡ seen (n - j * span 8 h) (link 8 b k j)
       unfolding pointerPage
-      old none = choose-zero (partLength (span 8 h) j o (length new)) _ _ (sym own-length ∙ none)
+      old none = choose-zero (kidNeed 8 b h k n o (length new) j) _ _ (omega (arith, count))
 
-      pub dead-child : length own ≡ 0 → n ≤ j * s → Children free b h k n o new plan₀ base c (j + 1) plan page taken
-      dead-child none past = turn (nothing none) (t .width)
+      pub dead-child : taken′ ≡ taken → n ≤ j * s → Children free b h k n o new plan₀ base c (j + 1) plan′ page taken′
+      dead-child none past = turn (Taken.same-pages same u) (t .width)
           (t .ahead j (omega arith) j-lt ∙ sym (old none ∙ seen-dead (n - j * span 8 h) (link 8 b k j) (omega (arith, rw es at past)))) (λ i z. refl)
 
-      pub old-child : length own ≡ 0 → j * s < n → Children free b h k n o new plan₀ base c (j + 1) plan (set page j x) taken
-      old-child none live = turn-set (nothing none) (ex ∙ sym (old none ∙ seen-live (n - j * span 8 h) (link 8 b k j) (omega (arith, rw es at live))))
+      pub old-child : taken′ ≡ taken → j * s < n → Children free b h k n o new plan₀ base c (j + 1) plan′ (set page j x) taken′
+      old-child none live = turn-set (Taken.same-pages same u) (ex ∙ sym (old none ∙ seen-live (n - j * span 8 h) (link 8 b k j) (omega (arith, rw es at live))))
 
-      pub fresh-child : {plan′ : List ℕ} {taken′ m o′ block : ℕ} → length own ≢ 0 → m ≡ n - j * s → o′ ≡ o - j * s
-          → Took free plan base taken (build 8 (taking free) b h (x / 8) m o′ own taken) plan′ taken′ → block ≡ getD free (taken′ - 1) 0
+      pub fresh-child : {block : ℕ} → taken′ ≢ taken → block ≡ getD free (taken′ - 1) 0
           → Children free b h k n o new plan₀ base c (j + 1) plan′ (set page j (8 * block)) taken′
-      unfolding pointerPage freshPointer taking
-      fresh-child {plan′} {taken′} {m} {o′} {block} some em eo′ u eb =
-          let same : build 8 (taking free) b h (x / 8) m o′ own taken ≡ child free b h k n o new c j = cc (taken-before) in
-          let l : ℕ = partLength (span 8 h) j o (length new) in
-          let count : taken′ ≡ c + needBefore 8 h o (length new) j + need 8 h (o - j * span 8 h) l =
-          omega (
-            arith,
-            u .next,
-            ap length same,
-            taken-before,
-            length-build 8 positive b (taking free) h (link 8 b k j / 8) (n - j * span 8 h) (o - j * span 8 h) (part (span 8 h) j o new) (c + needBefore 8 h o (length new) j),
-            ap (need 8 h (o - j * span 8 h)) (length-part (span 8 h) j o new),
-          ) in
-          turn-set (Taken.same-pages same u) (ap (λ (y : ℕ). 8 * y) eb ∙ ap (λ (y : ℕ). 8 * getD free (y - 1) 0) count ∙ sym (choose-pos l _ _ (omega (arith, own-length, some))))
+      unfolding pointerPage taking
+      fresh-child {block} some eb =
+          let l : ℕ = kidNeed 8 b h k n o (length new) j in
+          let at : taken′ ≡ c + freshBefore 8 b h k n o (length new) j + l = omega (arith, count, taken-before) in
+          turn-set (Taken.same-pages same u) (ap (λ (y : ℕ). 8 * y) eb ∙ ap (λ (y : ℕ). 8 * getD free (y - 1) 0) at ∙ sym (choose-pos l _ _ (omega (arith, count, some))))
+
+      pub some-taken : taken′ ≢ taken → 0 < taken′
+      some-taken some = omega (arith, count)
 
 -- ---- The tree
 
 module _ (free b : List ℕ) (h k n o : ℕ) (new : List ℕ) {plan₀ : List ℕ} {base c : ℕ} where
-  pub none : length new ≡ 0 → Took free plan₀ base c (build 8 (taking free) b h k n o new c) plan₀ c
-  none e = Taken.same-pages (sym (built-none (taking free) b h k n o new c e)) Taken.none
+  pub none : touched 8 h k n o (length new) ≡ false → Took free plan₀ base c (build 8 (taking free) b h k n o new c) plan₀ c
+  none e = Taken.same-pages (sym (build-none 8 positive b (taking free) h k n o new c e)) Taken.none
 
-  pub leaf : {plan : List ℕ} {taken : ℕ} → length new ≢ 0 → h ≡ 0 → Took free plan₀ base c (dataPage 8 b k n o new ∷ []) plan taken
+  pub leaf : {plan : List ℕ} {taken : ℕ} → touched 8 h k n o (length new) ≡ true → h ≡ 0 → Took free plan₀ base c (dataPage 8 b k n o new ∷ []) plan taken
       → Took free plan₀ base c (build 8 (taking free) b h k n o new c) plan taken
   leaf some low = Taken.same-pages (sym (built-data (taking free) b h k n o new c some low))
 
--- a written byte takes a block
-pub need-some : (h o l : ℕ) → l ≢ 0 → 0 < need 8 h o l
-need-some h o l some = need-pos 8 positive [] (λ i. i) h o l (omega arith)
+need-tall : (b : List ℕ) (h k n o l : ℕ) → h ≢ 0 → freshNeed 8 b (suc (h - 1)) k n o l ≡ freshNeed 8 b h k n o l
+need-tall b h k n o l tall = let e : suc (h - 1) ≡ h = omega arith in ap (λ (x : ℕ). freshNeed 8 b x k n o l) e
 
-pub taken-some : {free plan₀ plan : List ℕ} {base c taken : ℕ} (b : List ℕ) (h k n o : ℕ) (new : List ℕ) → length new ≢ 0
-    → Took free plan₀ base c (build 8 (taking free) b h k n o new c) plan taken → 0 < taken
-taken-some {free} {c = c} b h k n o new some t = omega (arith, t .next, length-build 8 positive b (taking free) h k n o new c, need-some h o (length new) some)
-
-need-tall : (h o l : ℕ) → h ≢ 0 → need 8 (suc (h - 1)) o l ≡ need 8 h o l
-need-tall h o l tall = let e : suc (h - 1) ≡ h = omega arith in ap (λ (x : ℕ). need 8 x o l) e
+tall-touched : (h k n o l : ℕ) → h ≢ 0 → touched 8 h k n o l ≡ true → touched 8 (suc (h - 1)) k n o l ≡ true
+tall-touched h k n o l tall t = let e : h ≡ suc (h - 1) = omega arith in rw e at t
 
 module _ {free b : List ℕ} {h k n o : ℕ} {new plan₀ : List ℕ} {base c j : ℕ} {plan page : List ℕ} {taken : ℕ}
-    (some : length new ≢ 0) (tall : h ≢ 0) (t : Children free b (h - 1) k n o new plan₀ base c j plan page taken) where
+    (some : touched 8 h k n o (length new) ≡ true) (tall : h ≢ 0) (t : Children free b (h - 1) k n o new plan₀ base c j plan page taken) where
   -- all eight children, and the block over them
   pub node : {plan′ : List ℕ} {taken′ : ℕ} → 8 ≤ j → j ≤ 8 → Took free plan base taken ((λ i. getD page i 0) ∷ []) plan′ taken′
       → Took free plan₀ base c (build 8 (taking free) b h k n o new c) plan′ taken′
@@ -160,13 +145,14 @@ module _ {free b : List ℕ} {h k n o : ℕ} {new plan₀ : List ℕ} {base c j 
       (Taken.more (t .took) (Taken.by-words page (λ i l. t .done i (omega arith)) u))
 
   -- the places of child j's pairs, and of those of the block over all
-  module _ (fits : base + 8 * (c + need 8 h o (length new)) ≤ 2 ^ 32) where
-    pub child-fits : {s o′ : ℕ} {own : List ℕ} → j < 8 → s ≡ span 8 (h - 1) → own ≡ part s j o new → o′ ≡ o - j * s
-        → base + 8 * (taken + need 8 (h - 1) o′ (length own)) ≤ 2 ^ 32
-    child-fits {s} {o′} {own} l es eo e =
-        let same : need 8 (h - 1) o′ (length own) ≡ need 8 (h - 1) (o - j * span 8 (h - 1)) (length (part (span 8 (h - 1)) j o new)) = cc in
-        let all : c + need 8 (suc (h - 1)) o (length new) ≤ c + need 8 h o (length new) = omega (arith, need-tall h o (length new) tall) in
-        omega (arith, same, taken-before t, room 8 positive b (taking free) (h - 1) o new c (c + need 8 h o (length new)) (omega arith) all j l)
+  module _ (fits : base + 8 * (c + freshNeed 8 b h k n o (length new)) ≤ 2 ^ 32) where
+    pub child-fits : {s x m o′ : ℕ} {own : List ℕ} → j < 8 → s ≡ span 8 (h - 1) → own ≡ part s j o new → x ≡ link 8 b k j → m ≡ n - j * s → o′ ≡ o - j * s
+        → base + 8 * (taken + freshNeed 8 b (h - 1) (x / 8) m o′ (length own)) ≤ 2 ^ 32
+    child-fits {s} {x} {m} {o′} {own} l es eo ex em e =
+        let same : freshNeed 8 b (h - 1) (x / 8) m o′ (length own)
+        ≡ freshNeed 8 b (h - 1) (link 8 b k j / 8) (n - j * span 8 (h - 1)) (o - j * span 8 (h - 1)) (length (part (span 8 (h - 1)) j o new)) = cc in
+        let all : c + freshNeed 8 b (suc (h - 1)) k n o (length new) ≤ c + freshNeed 8 b h k n o (length new) = omega (arith, need-tall b h k n o (length new) tall) in
+        omega (arith, same, taken-before t, room 8 positive b (taking free) (h - 1) k n o new c (c + freshNeed 8 b h k n o (length new)) (tall-touched h k n o (length new) tall some) all j l)
 
     pub node-fits : 8 ≤ j → j ≤ 8 → base + 8 * (taken + 1) ≤ 2 ^ 32
     node-fits low high =
@@ -174,7 +160,7 @@ module _ {free b : List ℕ} {h k n o : ℕ} {new plan₀ : List ℕ} {base c j 
         omega (
           arith,
           taken-before t,
-          need-tall h o (length new) tall,
-          need-suc 8 positive b (taking free) (h - 1) o (length new) (omega arith),
-          ap (needBefore 8 (h - 1) o (length new)) e,
+          need-tall b h k n o (length new) tall,
+          fresh-node 8 b (h - 1) k n o (length new) (tall-touched h k n o (length new) tall some),
+          ap (freshBefore 8 b (h - 1) k n o (length new)) e,
         )

@@ -1,4 +1,4 @@
-// Fresh trees: the blocks on all paths to written bytes, laid into a plan. `board` is read with the stores of `grown` performed; `free` lists the free
+// Fresh trees: the blocks on all paths to written bytes, and to the last byte before them where a gap lies between, laid into a plan. `board` is read with the stores of `grown` performed; `free` lists the free
 // blocks; c counts those taken; `base` is how many pairs of the plan stand for no fresh block.
 use images::decode;
 use images::word_at;
@@ -14,7 +14,7 @@ ghost use lib.ListN.{length, getD};
 ghost use Rattle.model.specs.Lists.{tabulate};
 ghost use Rattle.model.specs.Words.{wordOf};
 ghost use Rattle.model.specs.Tree.{span};
-ghost use Rattle.model.specs.Fresh.{part, need, dataPage, build};
+ghost use Rattle.model.specs.Fresh.{part, touched, freshNeed, dataPage, build};
 ghost use Rattle.plans.specs.Laying.{onto};
 ghost use Rattle.building.specs.Taking.{taking, Blocks, Took, splicedByte, SplicedByte};
 
@@ -135,6 +135,26 @@ fn take_data(
     take(free, plan, base, page, c)
 }
 
+// Whether the block of the tree (h, k, n) is made fresh when l bytes are written at o.
+fn touched(h: u64, k: u64, n: u64, o: u64, l: u64) -> bool
+    requires { ⌜ h < 8 ⌝ }
+    ensures { λ r. ⌜ r ≡ touched 8 h k n o l ⌝ }
+{
+    if l != 0 {
+        return true;
+    }
+    if o <= n {
+        return false;
+    }
+    if k == 0 {
+        return false;
+    }
+    if n == 0 {
+        return false;
+    }
+    n <= span(h)
+}
+
 // Lays the fresh blocks of the tree (h, k, n) with `new` written at o. Answers how many are taken then.
 pub fn build(
     board: &[u64],
@@ -149,11 +169,11 @@ pub fn build(
     new: &[u8],
     c: u64,
 ) -> u64
-    requires { ⌜ (h < 8) × Blocks (now free) × (base + 8 * (c + need 8 h o (length (now new))) ≤ 2 ^ 32) ⌝ }
+    requires { ⌜ (h < 8) × Blocks (now free) × (base + 8 * (c + freshNeed 8 (onto (now board) (now grown)) h k n o (length (now new))) ≤ 2 ^ 32) ⌝ }
     ensures { λ r. ⌜ Took (now (free .entry)) (now (plan .entry)) base c
         (build 8 (taking (now (free .entry))) (onto (now (board .entry)) (now (grown .entry))) h k n o (now (new .entry)) c) (now (plan .exit)) r ⌝ }
 {
-    if new.len() == 0 {
+    if !touched(h, k, n, o, new.len() as u64) {
         return c;
     }
     if h == 0 {
@@ -167,20 +187,21 @@ pub fn build(
         let first = j as u64 * s;
         let own = part(new, s, j as u64, o);
         let x = link_on(board, grown, k, j as u64);
-        if own.len() != 0 {
-            taken = build(
-                board,
-                grown,
-                free,
-                plan,
-                base,
-                h - 1,
-                x / 8,
-                minus(n, first),
-                minus(o, first),
-                own,
-                taken,
-            );
+        let before = taken;
+        taken = build(
+            board,
+            grown,
+            free,
+            plan,
+            base,
+            h - 1,
+            x / 8,
+            minus(n, first),
+            minus(o, first),
+            own,
+            taken,
+        );
+        if taken != before {
             page[j] = 8 * word(free, taken - 1);
         } else if first < n {
             page[j] = x;

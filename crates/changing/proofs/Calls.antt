@@ -11,7 +11,7 @@ use borrow.Author.Tests.{lt-ltb, le-ltb}
 use Rattle.model.specs.declared.Answer.{Answer}
 use Rattle.model.specs.declared.Answer.the-variants.{Done, Refused}
 use Rattle.model.specs.declared.Fault.{Fault}
-use Rattle.model.specs.declared.Fault.the-variants.{Offset, End, FreeBlocks, PlanLength}
+use Rattle.model.specs.declared.Fault.the-variants.{End, FreeBlocks, PlanLength}
 use Rattle.model.specs.Lists.{concat}
 use Rattle.model.specs.Layout.{house, files}
 use Rattle.model.specs.Tree.{span}
@@ -98,20 +98,20 @@ size-most {b} {f} k = facts house house-fits b (k .board) .most f (k .file)
 abbrev lowestPlan : List ℕ → ℕ → ℕ → List ℕ → Plan
 lowestPlan b f o new = writePlan house (lowest house b) b f o new
 
--- refusals 5 to 7, and all up to 7
+-- refusals 6 and 7, and all up to 7
 abbrev ownFaults : List ℕ → ℕ → ℕ → List ℕ → Faults
 ownFaults b f o new =
-    (Offset, ltb (size house b f) o) ∷ (End, ltb (greatest house) (o + length new)) ∷ (FreeBlocks, ltb (length (free house b)) (lowestPlan b f o new .taken)) ∷ []
+    (End, ltb (greatest house) (o + length new)) ∷ (FreeBlocks, ltb (length (free house b)) (lowestPlan b f o new .taken)) ∷ []
 
 abbrev allFaults : List ℕ → ℕ → ℕ → List ℕ → Faults
 allFaults b f o new = writeFaults house b f o new (lowestPlan b f o new)
 
 -- a write that none of them turns away
-write-done : (b : List ℕ) (f o : ℕ) (new : List ℕ) → File b f → o ≤ size house b f → o + length new ≤ 32768 → lowestPlan b f o new .taken ≤ length (free house b)
+write-done : (b : List ℕ) (f o : ℕ) (new : List ℕ) → File b f → o + length new ≤ 32768 → lowestPlan b f o new .taken ≤ length (free house b)
     → Done 0 ≡ answered (allFaults b f o new) 0
 unfolding writeFaults answered greatest span
-write-done b f o new k within end room = sym (first-done (fileFaults house b f) (ownFaults b f o new) 0 0 (file-done k) refl
-    ∙ rw (le-ltb (size house b f) o within, le-ltb 32768 (o + length new) end, le-ltb (length (free house b)) (lowestPlan b f o new .taken) room))
+write-done b f o new k end room = sym (first-done (fileFaults house b f) (ownFaults b f o new) 0 0 (file-done k) refl
+    ∙ rw (le-ltb 32768 (o + length new) end, le-ltb (length (free house b)) (lowestPlan b f o new .taken) room))
 
 module _ (b : List ℕ) (f o : ℕ) (new slice : List ℕ) where
   -- the definition's answer and slice
@@ -129,36 +129,31 @@ module _ (b : List ℕ) (f o : ℕ) (new slice : List ℕ) where
   write-turned e z = first-turned (sym (first-refused (fileFaults house b f) (ownFaults b f o new) 0 0 e z)) z
 
   module _ (k : File b f) where
-    -- one of 5 to 7
+    -- 6 or 7
     own-turned : {x : Fault} → answered (ownFaults b f o new) 0 ≡ Refused x → PlanResult (write house b f o new slice) (Refused x) slice
     unfolding writeFaults
     own-turned z = first-turned (sym (first-done (fileFaults house b f) (ownFaults b f o new) 0 0 (file-done k) refl ∙ z)) refl
 
-    pub write-past-size : {n : ℕ} → n ≡ size house b f → n < o → PlanResult (write house b f o new slice) (Refused Offset) slice
-    unfolding answered
-    write-past-size en l = own-turned (rw (lt-ltb (size house b f) o (omega arith)))
+    pub write-past-end : 32768 < o + length new → PlanResult (write house b f o new slice) (Refused End) slice
+    unfolding answered greatest span
+    write-past-end l = own-turned (rw (lt-ltb 32768 (o + length new) l))
 
-    module _ (within : o ≤ size house b f) where
-      pub write-past-end : 32768 < o + length new → PlanResult (write house b f o new slice) (Refused End) slice
+    module _ (end : o + length new ≤ 32768) where
+      no-blocks : length (free house b) < lowestPlan b f o new .taken → PlanResult (write house b f o new slice) (Refused FreeBlocks) slice
       unfolding answered greatest span
-      write-past-end l = own-turned (rw (le-ltb (size house b f) o within, lt-ltb 32768 (o + length new) l))
+      no-blocks l = own-turned (rw (le-ltb 32768 (o + length new) end, lt-ltb (length (free house b)) (lowestPlan b f o new .taken) l))
 
-      module _ (end : o + length new ≤ 32768) where
-        no-blocks : length (free house b) < lowestPlan b f o new .taken → PlanResult (write house b f o new slice) (Refused FreeBlocks) slice
-        unfolding answered greatest span
-        no-blocks l = own-turned (rw (le-ltb (size house b f) o within, le-ltb 32768 (o + length new) end, lt-ltb (length (free house b)) (lowestPlan b f o new .taken) l))
+      module _ (room : lowestPlan b f o new .taken ≤ length (free house b)) {n : ℕ} (en : n ≡ 0 + length (pairs (lowestPlan b f o new))) where
+        short-slice : length slice / 2 < n → PlanResult (write house b f o new slice) (Refused PlanLength) slice
+        short-slice l = write-gives (too-short (allFaults b f o new) (pairs (lowestPlan b f o new)) slice 0 (write-done b f o new k end room) refl en l)
 
-        module _ (room : lowestPlan b f o new .taken ≤ length (free house b)) {n : ℕ} (en : n ≡ 0 + length (pairs (lowestPlan b f o new))) where
-          short-slice : length slice / 2 < n → PlanResult (write house b f o new slice) (Refused PlanLength) slice
-          short-slice l = write-gives (too-short (allFaults b f o new) (pairs (lowestPlan b f o new)) slice 0 (write-done b f o new k within end room) refl en l)
-
-          whole : n ≤ length slice / 2 → {slice′ : List ℕ} → slice′ ≡ laid slice 0 (pairs (lowestPlan b f o new)) → PlanResult (write house b f o new slice) (Done n) slice′
-          whole l es = write-gives (long-enough (allFaults b f o new) (pairs (lowestPlan b f o new)) slice 0 (write-done b f o new k within end room) refl en l es)
+        whole : n ≤ length slice / 2 → {slice′ : List ℕ} → slice′ ≡ laid slice 0 (pairs (lowestPlan b f o new)) → PlanResult (write house b f o new slice) (Done n) slice′
+        whole l es = write-gives (long-enough (allFaults b f o new) (pairs (lowestPlan b f o new)) slice 0 (write-done b f o new k end room) refl en l es)
 
 -- nothing to write
-pub write-nothing : (b : List ℕ) (f o : ℕ) (new slice : List ℕ) → File b f → o ≤ size house b f → length new ≡ 0 → PlanResult (write house b f o new slice) (Done 0) slice
+pub write-nothing : (b : List ℕ) (f o : ℕ) (new slice : List ℕ) → File b f → o ≤ 32768 → length new ≡ 0 → PlanResult (write house b f o new slice) (Done 0) slice
 unfolding writePlan plan pairs planEpochs fenced
-write-nothing b f o [] slice k within e = whole b f o [] slice k within (omega (arith, size-most k)) (omega arith) refl (omega arith) (sym (laid-none slice 0))
+write-nothing b f o [] slice k within e = whole b f o [] slice k (omega arith) (omega arith) refl (omega arith) (sym (laid-none slice 0))
 write-nothing b f o (x ∷ new) slice k within e = absurd (omega arith)
 
 -- a write of some bytes, planned with the table's blocks, which are the lowest free ones
@@ -171,7 +166,7 @@ module _ {b : List ℕ} {f o : ℕ} {new table : List ℕ} {count : ℕ} (s : St
 
   module _ {slice : List ℕ} where
     lacks : count < tablePlan .taken → PlanResult (write house b f o new slice) (Refused FreeBlocks) slice
-    lacks l = no-blocks b f o new slice (s .asked .of) (s .asked .within) (s .asked .end) (rw (← same-plan) (omega (arith, s .all)))
+    lacks l = no-blocks b f o new slice (s .asked .of) (s .asked .end) (rw (← same-plan) (omega (arith, s .all)))
 
     pub growth-lacks : {n : ℕ} → n ≡ growth house (taking table) b f (o + length new) .taken → count < n → PlanResult (write house b f o new slice) (Refused FreeBlocks) slice
     growth-lacks e l = lacks (omega (arith, growth-first (taking table) b f o new (s .asked .some)))
@@ -188,12 +183,12 @@ module _ {b : List ℕ} {f o : ℕ} {new table : List ℕ} {count : ℕ} (s : St
       plan-lacks l = lacks (omega (arith, q .taken))
 
       pub plan-short : r .taken ≤ count → length slice / 2 < r .pairs → PlanResult (write house b f o new slice) (Refused PlanLength) slice
-      plan-short room l = short-slice b f o new slice (s .asked .of) (s .asked .within) (s .asked .end) (enough room) counted l
+      plan-short room l = short-slice b f o new slice (s .asked .of) (s .asked .end) (enough room) counted l
 
     pub plan-laid : (none slice : List ℕ) {slice′ : List ℕ} {r′ : Count} → r .taken ≤ count → r .pairs ≤ length slice / 2 → length none ≡ 0
         → PlanLaid (none ++ slice) 0 tablePlan slice′ r′ → PlanResult (write house b f o new slice) (Done (r .pairs)) slice′
     plan-laid none slice room l e q′ =
-        whole b f o new slice (s .asked .of) (s .asked .within) (s .asked .end) (enough room) counted l (rw (same-plan, no-part none slice e) at (q′ .is))
+        whole b f o new slice (s .asked .of) (s .asked .end) (enough room) counted l (rw (same-plan, no-part none slice e) at (q′ .is))
 
 -- ---- Length change
 

@@ -42,7 +42,7 @@ fn write_some(
     Answer::Done(wanted.pairs)
 }
 
-// Write: plans `bytes` at `offset` of a file. Answers the pair count, or refused 1 to 8.
+// Write: plans `bytes` at `offset` of a file. Answers the pair count, or refused 1, 2, 3, 4, 6, 7, 8.
 pub fn write(board: &[u64], file: u64, offset: u64, bytes: &[u8], plan: &mut [u64]) -> Answer
     ensures { λ r. ⌜ PlanResult (write house (now (board .entry)) file offset (now (bytes .entry)) (now (plan .entry))) r (now (plan .exit)) ⌝ }
 {
@@ -54,8 +54,8 @@ pub fn write(board: &[u64], file: u64, offset: u64, bytes: &[u8], plan: &mut [u6
     if 31 < file {
         return Answer::Refused(Fault::FileNumber);
     }
-    if boards::size(board, file) < offset {
-        return Answer::Refused(Fault::Offset);
+    if 32768 < offset {
+        return Answer::Refused(Fault::End);
     }
     if 32768 - offset < bytes.len() as u64 {
         return Answer::Refused(Fault::End);

@@ -4,14 +4,14 @@ use mathlib.Core.Logic.{inl, inr}
 use mathlib.Core.List.{List, [], _∷_, _++_, append-nil}
 use Prim.Native.Nat.{ℕ, zero, suc, _+_, _-_, _≤_, _<_, min, max}
 use native.Mathlib.Omega.{arith}
-use lib.ListN.{length, getD, take, drop, replicate, length-append, length-take, length-drop, length-replicate, List·getD-append, drop-of-length-le}
+use lib.ListN.{length, getD, take, drop, replicate, length-append, length-take, length-drop, length-replicate, getD-replicate, List·getD-append, drop-of-length-le}
 use lib.Seq.{ext-getD, getD-take, getD-drop, getD-append-add, getD-at, take-all}
 use Rattle.model.specs.Lists.{tabulate}
 use Rattle.model.specs.Tree.{seen}
 use Rattle.model.specs.Fresh.{splice}
 use Rattle.model.proofs.Cases.{split, decide}
 use Rattle.model.proofs.Perform.{length-tabulate}
-use Rattle.model.proofs.Agree.{seen-live}
+use Rattle.model.proofs.Agree.{seen-live, seen-dead}
 use Rattle.model.proofs.Splice.{splice-in, splice-left, splice-right, splice-none}
 
 pub getD-tabulate : {A : Type 0} (m : ℕ) (f : ℕ → A) (d : A) (i : ℕ) → i < m → getD (tabulate m f) i d ≡ f i
@@ -34,8 +34,8 @@ module _ (n : ℕ) (f : ℕ → ℕ) where
   first-at : (m i : ℕ) → i < m → i < n → getD (take m (tabulate n f)) i 0 ≡ f i
   first-at m i l v = getD-take m (tabulate n f) i 0 l ∙ getD-tabulate n f 0 i v
 
-  -- a write of `new` at o
-  module _ (o : ℕ) (new : List ℕ) (within : o ≤ n) where
+  -- a write of `new` at o, which may lie past n: zeros stand between
+  module _ (o : ℕ) (new : List ℕ) where
     rest : List ℕ
     rest = drop (o + length new) (tabulate n f)
 
@@ -43,16 +43,31 @@ module _ (n : ℕ) (f : ℕ → ℕ) where
     unfolding rest
     length-rest = length-drop (o + length new) (tabulate n f) ∙ ap (λ (x : ℕ). x - (o + length new)) (length-tabulate n f)
 
-    length-head : length (take o (tabulate n f)) ≡ o
-    length-head = omega (arith, length-first o)
+    gap : List ℕ
+    gap = replicate (o - n) 0
+
+    head : List ℕ
+    head = take o (tabulate n f) ++ gap
+
+    length-head : length head ≡ o
+    unfolding head gap
+    length-head = omega (arith, length-append (take o (tabulate n f)) (replicate (o - n) 0), length-first o, length-replicate {A = ℕ} (o - n) 0)
+
+    head-at : (i : ℕ) → i < o → getD head i 0 ≡ seen (n - i) (f i)
+    unfolding head gap
+    head-at i l = elim (split n i) [
+      | inl past ↦ getD-after (take o (tabulate n f)) (replicate (o - n) 0) n i (omega (arith, length-first o)) past ∙ getD-replicate (o - n) (i - n) 0 0 (omega arith)
+          ∙ sym (seen-dead (n - i) (f i) (omega arith))
+      | inr in-it ↦ List·getD-append (take o (tabulate n f)) (replicate (o - n) 0) 0 i (omega (arith, length-first o)) ∙ first-at o i l in-it ∙ sym (seen-live (n - i) (f i) (omega arith))
+    ]
 
     -- up to the end of what is written
     front : List ℕ
-    front = take o (tabulate n f) ++ new
+    front = head ++ new
 
     length-front : length front ≡ o + length new
     unfolding front
-    length-front = length-append (take o (tabulate n f)) new ∙ ap (λ (x : ℕ). x + length new) length-head
+    length-front = length-append head new ∙ ap (λ (x : ℕ). x + length new) length-head
 
     byte-after : (i : ℕ) → i < max n (o + length new) → splice o new (seen (n - i) (f i)) i ≡ getD (front ++ rest) i 0
     unfolding rest front
@@ -65,14 +80,14 @@ module _ (n : ℕ) (f : ℕ → ℕ) where
       | inr mid ↦
           let inner : getD (front ++ rest) i 0 ≡ getD front i 0 = List·getD-append front rest 0 i (omega (arith, length-front)) in
           elim (split o i) [
-            | inr left ↦ splice-left o new _ i left ∙ seen-live (n - i) (f i) (omega arith)
-                ∙ sym (inner ∙ List·getD-append (take o (tabulate n f)) new 0 i (omega (arith, length-head)) ∙ first-at o i left (omega arith))
-            | inl from ↦ splice-in o new _ i from mid ∙ sym (inner ∙ getD-after (take o (tabulate n f)) new o i length-head from)
+            | inr left ↦ splice-left o new _ i left ∙ sym (inner ∙ List·getD-append head new 0 i (omega (arith, length-head)) ∙ head-at i left)
+            | inl from ↦ splice-in o new _ i from mid ∙ sym (inner ∙ getD-after head new o i length-head from)
           ]
     ]
 
-    pub spliced-write : tabulate (max n (o + length new)) (λ i. splice o new (seen (n - i) (f i)) i) ≡ take o (tabulate n f) ++ new ++ drop (o + length new) (tabulate n f)
-    unfolding rest front
+    pub spliced-write : tabulate (max n (o + length new)) (λ i. splice o new (seen (n - i) (f i)) i)
+        ≡ take o (tabulate n f) ++ replicate (o - n) 0 ++ new ++ drop (o + length new) (tabulate n f)
+    unfolding rest front head gap
     spliced-write =
         let m : ℕ = max n (o + length new) in
         let f′ : ℕ → ℕ = λ i. splice o new (seen (n - i) (f i)) i in
@@ -103,5 +118,6 @@ module _ (n : ℕ) (f : ℕ → ℕ) where
         let e : max n (n + length zeros) ≡ m = omega arith in
         let none : drop (n + length zeros) (tabulate n f) ≡ [] = drop-of-length-le (tabulate n f) {i = n + length zeros} (omega (arith, length-tabulate n f)) in
         let whole : take n (tabulate n f) ≡ take m (tabulate n f) = take-all n (tabulate n f) (omega (arith, length-tabulate n f)) ∙ sym (take-all m (tabulate n f) (omega (arith, length-tabulate n f))) in
-        ap (λ (x : ℕ). tabulate x (λ i. splice n zeros (seen (n - i) (f i)) i)) (sym e) ∙ spliced-write n zeros (omega arith)
-        ∙ rw (none, append-nil (take n (tabulate n f) ++ zeros), whole)
+        let gapless : n - n ≡ 0 = omega arith in
+        ap (λ (x : ℕ). tabulate x (λ i. splice n zeros (seen (n - i) (f i)) i)) (sym e) ∙ spliced-write n zeros
+        ∙ rw (none, gapless, append-nil (take n (tabulate n f)), append-nil (take n (tabulate n f) ++ zeros), whole)

@@ -1,23 +1,25 @@
 -- A fresh tree: what its pages read as once a board holds them.
 use mathlib.Core.Path.{_≡_, refl, sym, ap, _∙_, subst}
 use mathlib.Core.Logic.{inl, inr}
+use mathlib.Core.Bool.{Bool, true, false}
 use mathlib.Core.List.{List, [], _∷_, _++_}
 use Prim.Native.Nat.{ℕ, zero, suc, _+_, _-_, _*_, _/_, _%_, _≤_, _<_}
 use native.Mathlib.Omega.{arith}
-use native.Mathlib.Nat.{zero-add, add-zero, mul-div-cancel-left, mul-mod-right, zero-mod}
+use native.Mathlib.Nat.{zero-add, add-zero, mul-div-cancel-left, mul-mod-right, zero-mod, zero-div}
 use lib.ListN.{length, length-append}
 use Rattle.model.specs.Lists.{joined, sum}
 use Rattle.model.specs.Words.{byteOf}
 use Rattle.model.specs.Tree.{seen, span, cell, link}
-use Rattle.model.specs.Fresh.{Page, splice, part, partLength, need, needBefore, dataPage, freshPointer, pointerPage, build}
+use Rattle.model.specs.Fresh.{Page, splice, part, partLength, touched, freshNeed, freshBefore, need, dataPage, pointerPage, build}
 use Rattle.model.specs.Claims.{FreshBlockRule}
-use Rattle.model.proofs.Cases.{split, decide, length-joined}
-use Rattle.model.proofs.Sums.{sum-cong, sum-mono, sum-split}
+use Rattle.model.proofs.Cases.{split, decide, either, length-joined}
+use Rattle.model.proofs.Sums.{sum-cong, sum-split}
 use Rattle.model.proofs.Counting.{one}
 use Rattle.model.proofs.Bytes.{byteOf-lt, byteOf-wordOf}
-use Rattle.model.proofs.Agree.{byteAt, agree, seen-live, seen-dead, seen-lt, link-cell, agree-child, occ-leaf, occ-beneath, sound-leaf, aligned-zero, aligned-full}
-use Rattle.model.proofs.Splice.{Small, Cover, length-part, small-part, cover-child, splice-small, choose-zero, choose-pos, splice-right, bytes-small}
-use Rattle.model.proofs.Changed.{Changed, weaken, kept, node}
+use Rattle.model.proofs.Agree.{byteAt, agree, agree-none, seen-live, seen-dead, seen-lt, link-cell, agree-child, occ-leaf, occ-beneath, sound-leaf, aligned-zero, aligned-full}
+use Rattle.model.proofs.Splice.{Small, Reach, length-part, small-part, reach-child, splice-small, splice-skip, choose-zero, choose-pos, bytes-small}
+use Rattle.model.proofs.Paths.{touched-new, untouched-dead, kidNeed, fresh-none, fresh-data, fresh-node, fresh-pos, before-suc, before-le, fresh-quiet}
+use Rattle.model.proofs.Changed.{Changed, weaken, passed, node}
 
 -- the board b holds pages from the fresh block number c on
 unfoldable pub held : ℕ → (ℕ → ℕ) → List ℕ → List Page → ℕ → Type 0
@@ -36,6 +38,12 @@ module _ (fresh : ℕ → ℕ) where
   pub used-one : (q c : ℕ) → used q c 1 ≡ one q (fresh c)
   unfolding used sum
   used-one q c = zero-add _ ∙ ap (λ (x : ℕ). one q (fresh x)) (add-zero c)
+
+-- the block of a pointer that is 0 where it isn't live
+pub seen-block : (W n w : ℕ) → seen n w / W ≡ seen n (w / W)
+unfolding seen
+seen-block W zero w = zero-div W
+seen-block W (suc n) w = refl
 
 -- byte t of word j of a fresh data block
 pub data-page-byte : (W : ℕ) (b : List ℕ) (k n o : ℕ) (new : List ℕ) → Small new → (j t : ℕ) → t < 8
@@ -57,58 +65,60 @@ page-byte W pos b b′ k k′ n m o new there small i v word =
 module _ (W : ℕ) (pos : 0 < W) (b : List ℕ) (fresh : ℕ → ℕ) where
   -- the pages of child j
   abbrev pub kid : ℕ → ℕ → ℕ → ℕ → List ℕ → ℕ → ℕ → List Page
-  kid h k n o new c j = build W fresh b h (link W b k j / W) (n - j * span W h) (o - j * span W h) (part (span W h) j o new) (c + needBefore W h o (length new) j)
+  kid h k n o new c j = build W fresh b h (link W b k j / W) (n - j * span W h) (o - j * span W h) (part (span W h) j o new) (c + freshBefore W b h k n o (length new) j)
 
-  pub length-build : (h k n o : ℕ) (new : List ℕ) (c : ℕ) → length (build W fresh b h k n o new c) ≡ need W h o (length new)
-  unfolding build need
-  length-build zero k n o [] c = refl
-  length-build zero k n o (x ∷ new) c = refl
-  length-build (suc h) k n o [] c = refl
-  length-build (suc h) k n o (x ∷ new) c =
-      let f = kid h k n o (x ∷ new) c in
-      omega (
-        arith,
-        length-append (joined W f) (pointerPage W fresh b h k n o (suc (length new)) c ∷ []),
-        length-joined W f,
-        sum-cong W (λ j. length (f j)) (λ j. need W h (o - j * span W h) (partLength (span W h) j o (suc (length new))))
-            (λ j l. length-build h (link W b k j / W) (n - j * span W h) (o - j * span W h) (part (span W h) j o (x ∷ new)) (c + needBefore W h o (suc (length new)) j)
-            ∙ ap (need W h (o - j * span W h)) (length-part (span W h) j o (x ∷ new))),
-      )
+  -- what is built, by the test
+  pub build-none : (h k n o : ℕ) (new : List ℕ) (c : ℕ) → touched W h k n o (length new) ≡ false → build W fresh b h k n o new c ≡ []
+  unfolding build
+  build-none zero k n o new c e = rw e
+  build-none (suc h) k n o new c e = rw e
 
-  pub kid-lengths : (h k n o : ℕ) (new : List ℕ) (c m : ℕ) → sum m (λ j. length (kid h k n o new c j)) ≡ needBefore W h o (length new) m
-  unfolding needBefore
-  kid-lengths h k n o new c m = sum-cong m _ _ (λ j l. length-build h (link W b k j / W) (n - j * span W h) (o - j * span W h) (part (span W h) j o new) (c + sum j (λ i. need W h (o - i * span W h) (partLength (span W h) i o (length new))))
-      ∙ ap (need W h (o - j * span W h)) (length-part (span W h) j o new))
+  pub build-data : (k n o : ℕ) (new : List ℕ) (c : ℕ) → touched W zero k n o (length new) ≡ true → build W fresh b zero k n o new c ≡ dataPage W b k n o new ∷ []
+  unfolding build
+  build-data k n o new c e = rw e
 
-  pub need-pos : (h o l : ℕ) → 0 < l → 0 < need W h o l
-  unfolding need
-  need-pos zero o zero p = absurd (omega arith)
-  need-pos zero o (suc l) p = omega arith
-  need-pos (suc h) o zero p = absurd (omega arith)
-  need-pos (suc h) o (suc l) p = omega arith
+  pub build-node : (h k n o : ℕ) (new : List ℕ) (c : ℕ) → touched W (suc h) k n o (length new) ≡ true
+      → build W fresh b (suc h) k n o new c ≡ joined W (kid h k n o new c) ++ (pointerPage W fresh b h k n o (length new) c ∷ [])
+  unfolding build
+  build-node h k n o new c e = rw e
 
-  pub need-suc : (h o l : ℕ) → 0 < l → need W (suc h) o l ≡ suc (needBefore W h o l W)
-  unfolding need needBefore
-  need-suc h o zero p = absurd (omega arith)
-  need-suc h o (suc l) p = refl
+  pub length-build : (h k n o : ℕ) (new : List ℕ) (c : ℕ) → length (build W fresh b h k n o new c) ≡ freshNeed W b h k n o (length new)
+  unfolding freshBefore
+  length-build zero k n o new c = elim (either (touched W zero k n o (length new))) [
+    | inl e ↦ rw (build-data k n o new c e, fresh-data W b k n o (length new) e)
+    | inr e ↦ rw (build-none zero k n o new c e, fresh-none W b zero k n o (length new) e)
+  ]
+  length-build (suc h) k n o new c = elim (either (touched W (suc h) k n o (length new))) [
+    | inl e ↦ rw (build-node h k n o new c e, fresh-node W b h k n o (length new) e)
+        (omega (
+          arith,
+          length-append (joined W (kid h k n o new c)) (pointerPage W fresh b h k n o (length new) c ∷ []),
+          length-joined W (kid h k n o new c),
+          sum-cong W (λ j. length (kid h k n o new c j)) (kidNeed W b h k n o (length new))
+              (λ j l. length-build h (link W b k j / W) (n - j * span W h) (o - j * span W h) (part (span W h) j o new) (c + freshBefore W b h k n o (length new) j)
+              ∙ ap (freshNeed W b h (link W b k j / W) (n - j * span W h) (o - j * span W h)) (length-part (span W h) j o new)),
+        ))
+    | inr e ↦ rw (build-none (suc h) k n o new c e, fresh-none W b (suc h) k n o (length new) e)
+  ]
 
-  pub before-suc : (h o l j : ℕ) → needBefore W h o l (suc j) ≡ needBefore W h o l j + need W h (o - j * span W h) (partLength (span W h) j o l)
-  unfolding needBefore sum
-  before-suc h o l j = refl
+  -- where no block exists
+  pub length-build-null : (h n o : ℕ) (new : List ℕ) (c : ℕ) → length (build W fresh b h 0 n o new c) ≡ need W h o (length new)
+  length-build-null h n o new c = length-build h 0 n o new c ∙ fresh-quiet W b h 0 n o (length new) (inl refl)
 
-  pub before-le : (h o l j : ℕ) → j < W → needBefore W h o l (suc j) ≤ needBefore W h o l W
-  unfolding needBefore
-  before-le h o l j p = sum-mono (λ i. need W h (o - i * span W h) (partLength (span W h) i o l)) (suc j) W p
+  pub kid-lengths : (h k n o : ℕ) (new : List ℕ) (c m : ℕ) → sum m (λ j. length (kid h k n o new c j)) ≡ freshBefore W b h k n o (length new) m
+  unfolding freshBefore
+  kid-lengths h k n o new c m = sum-cong m _ _ (λ j l. length-build h (link W b k j / W) (n - j * span W h) (o - j * span W h) (part (span W h) j o new) (c + freshBefore W b h k n o (length new) j)
+      ∙ ap (freshNeed W b h (link W b k j / W) (n - j * span W h) (o - j * span W h)) (length-part (span W h) j o new))
 
-  pub room : (h o : ℕ) (new : List ℕ) (c lim : ℕ) → 0 < length new → c + need W (suc h) o (length new) ≤ lim → (j : ℕ) → j < W
-      → c + needBefore W h o (length new) j + need W h (o - j * span W h) (length (part (span W h) j o new)) ≤ lim
-  room h o new c lim p q j l = rw (length-part (span W h) j o new)
-      (omega (arith, need-suc h o (length new) p, before-suc h o (length new) j, before-le h o (length new) j l))
+  pub room : (h k n o : ℕ) (new : List ℕ) (c lim : ℕ) → touched W (suc h) k n o (length new) ≡ true → c + freshNeed W b (suc h) k n o (length new) ≤ lim → (j : ℕ) → j < W
+      → c + freshBefore W b h k n o (length new) j + freshNeed W b h (link W b k j / W) (n - j * span W h) (o - j * span W h) (length (part (span W h) j o new)) ≤ lim
+  room h k n o new c lim p q j l = rw (length-part (span W h) j o new)
+      (omega (arith, fresh-node W b h k n o (length new) p, before-suc W b h k n o (length new) j, before-le W b h k n o (length new) j l))
 
-  pub used-before : (h o l q c m : ℕ) → sum m (λ j. used fresh q (c + needBefore W h o l j) (need W h (o - j * span W h) (partLength (span W h) j o l))) ≡ used fresh q c (needBefore W h o l m)
-  unfolding needBefore sum used
-  used-before h o l q c zero = refl
-  used-before h o l q c (suc m) = omega (arith, used-before h o l q c m, used-add fresh q c (needBefore W h o l m) (need W h (o - m * span W h) (partLength (span W h) m o l)))
+  pub used-before : (h k n o l q c m : ℕ) → sum m (λ j. used fresh q (c + freshBefore W b h k n o l j) (kidNeed W b h k n o l j)) ≡ used fresh q c (freshBefore W b h k n o l m)
+  unfolding freshBefore sum used
+  used-before h k n o l q c zero = refl
+  used-before h k n o l q c (suc m) = omega (arith, used-before h k n o l q c m, used-add fresh q c (freshBefore W b h k n o l m) (kidNeed W b h k n o l m))
 
   -- a board that holds the pages from c on
   module _ (b′ : List ℕ) where
@@ -131,105 +141,126 @@ module _ (W : ℕ) (pos : 0 < W) (b : List ℕ) (fresh : ℕ → ℕ) where
     ]
 
     -- what a held write has at its root and below it
-    pub held-root : (h k n o : ℕ) (new : List ℕ) (c : ℕ) → 0 < length new → held W fresh b′ (build W fresh b (suc h) k n o new c) c
-        → (j : ℕ) → j < W → cell W b′ (fresh (c + need W (suc h) o (length new) - 1)) j ≡ pointerPage W fresh b h k n o (length new) c j
-    unfolding build held
-    held-root h k n o [] c p g j l = absurd (omega arith)
-    held-root h k n o (x ∷ new) c p g j l =
-        let f = kid h k n o (x ∷ new) c in
-        let at : c + length (joined W f) ≡ c + need W (suc h) o (suc (length new)) - 1 = omega (arith, length-joined W f, kid-lengths h k n o (x ∷ new) c W, need-suc h o (suc (length new)) p) in
-        subst (λ (y : ℕ). cell W b′ (fresh y) j ≡ pointerPage W fresh b h k n o (suc (length new)) c j) at
-        (held-right (joined W f) (pointerPage W fresh b h k n o (suc (length new)) c ∷ []) c g .0 j l)
+    pub held-root : (h k n o : ℕ) (new : List ℕ) (c : ℕ) → touched W (suc h) k n o (length new) ≡ true → held W fresh b′ (build W fresh b (suc h) k n o new c) c
+        → (j : ℕ) → j < W → cell W b′ (fresh (c + freshNeed W b (suc h) k n o (length new) - 1)) j ≡ pointerPage W fresh b h k n o (length new) c j
+    unfolding held
+    held-root h k n o new c p g j l =
+        let f = kid h k n o new c in
+        let at : c + length (joined W f) ≡ c + freshNeed W b (suc h) k n o (length new) - 1 =
+        omega (arith, length-joined W f, kid-lengths h k n o new c W, fresh-node W b h k n o (length new) p) in
+        subst (λ (y : ℕ). cell W b′ (fresh y) j ≡ pointerPage W fresh b h k n o (length new) c j) at
+        (held-right (joined W f) (pointerPage W fresh b h k n o (length new) c ∷ []) c (rw (build-node h k n o new c p) at g) .0 j l)
 
-    pub held-child : (h k n o : ℕ) (new : List ℕ) (c : ℕ) → 0 < length new → held W fresh b′ (build W fresh b (suc h) k n o new c) c → (j : ℕ) → j < W
-        → held W fresh b′ (build W fresh b h (link W b k j / W) (n - j * span W h) (o - j * span W h) (part (span W h) j o new) (c + needBefore W h o (length new) j)) (c + needBefore W h o (length new) j)
-    unfolding build
-    held-child h k n o [] c p g j l = absurd (omega arith)
-    held-child h k n o (x ∷ new) c p g j l =
-        let f = kid h k n o (x ∷ new) c in
-        subst (λ (y : ℕ). held W fresh b′ (f j) (c + y)) (kid-lengths h k n o (x ∷ new) c j)
-        (held-joined W f c (held-left (joined W f) (pointerPage W fresh b h k n o (suc (length new)) c ∷ []) c g) j l)
+    pub held-child : (h k n o : ℕ) (new : List ℕ) (c : ℕ) → touched W (suc h) k n o (length new) ≡ true → held W fresh b′ (build W fresh b (suc h) k n o new c) c → (j : ℕ) → j < W
+        → held W fresh b′ (kid h k n o new c j) (c + freshBefore W b h k n o (length new) j)
+    held-child h k n o new c p g j l =
+        let f = kid h k n o new c in
+        subst (λ (y : ℕ). held W fresh b′ (f j) (c + y)) (kid-lengths h k n o new c j)
+        (held-joined W f c (held-left (joined W f) (pointerPage W fresh b h k n o (length new) c ∷ []) c (rw (build-node h k n o new c p) at g)) j l)
 
     -- the bytes of the fresh tree, of which m lie below the new size
     module _ (lim : ℕ) (nonzero : (i : ℕ) → i < lim → 0 < fresh i) where
-      pub data-byte : (k n o : ℕ) (new : List ℕ) (c m : ℕ) → 0 < length new → c < lim → Small new → held W fresh b′ (build W fresh b zero k n o new c) c
+      pub data-byte : (k n o : ℕ) (new : List ℕ) (c m : ℕ) → touched W zero k n o (length new) ≡ true → c < lim → Small new → held W fresh b′ (build W fresh b zero k n o new c) c
           → (i : ℕ) → i < span W zero → i < m → byteAt W b′ zero (fresh c) m i ≡ splice o new (byteAt W b zero k n i) i
-      unfolding build held span
-      data-byte k n o [] c m p q small g i l v = absurd (omega arith)
-      data-byte k n o (x ∷ new) c m p q small g i l v = page-byte W pos b b′ k (fresh c) n m o (x ∷ new) (nonzero c q) small i v (g .0 (i / 8) (omega arith))
+      unfolding held span
+      data-byte k n o new c m p q small g i l v =
+          page-byte W pos b b′ k (fresh c) n m o new (nonzero c q) small i v ((rw (build-data k n o new c p) at g) .0 (i / 8) (omega arith))
 
-      -- the pointers of the fresh root: the old one where nothing is written, a fresh one elsewhere
-      pub top-old : (h k n o : ℕ) (new : List ℕ) (c : ℕ) → 0 < length new → c + need W (suc h) o (length new) ≤ lim → held W fresh b′ (build W fresh b (suc h) k n o new c) c
-          → (j : ℕ) → j < W → partLength (span W h) j o (length new) ≤ 0
-          → link W b′ (fresh (c + need W (suc h) o (length new) - 1)) j ≡ seen (n - j * span W h) (link W b k j)
+      -- the pointers of the fresh root: a fresh one over a child that takes fresh blocks, elsewhere the old one as it is visible
+      pub top-old : (h k n o : ℕ) (new : List ℕ) (c : ℕ) → touched W (suc h) k n o (length new) ≡ true → c + freshNeed W b (suc h) k n o (length new) ≤ lim
+          → held W fresh b′ (build W fresh b (suc h) k n o new c) c → (j : ℕ) → j < W
+          → touched W h (link W b k j / W) (n - j * span W h) (o - j * span W h) (partLength (span W h) j o (length new)) ≡ false
+          → link W b′ (fresh (c + freshNeed W b (suc h) k n o (length new) - 1)) j ≡ seen (n - j * span W h) (link W b k j)
       unfolding pointerPage
       top-old h k n o new c p q g j l none =
-          link-cell W pos b′ _ j (nonzero _ (omega (arith, need-pos (suc h) o (length new) p))) ∙ held-root h k n o new c p g j l
-          ∙ choose-zero (partLength (span W h) j o (length new)) _ _ (omega arith)
+          link-cell W pos b′ _ j (nonzero _ (omega (arith, fresh-pos W b (suc h) k n o (length new) p))) ∙ held-root h k n o new c p g j l
+          ∙ choose-zero (kidNeed W b h k n o (length new) j) _ _ (fresh-none W b h _ _ _ _ none)
 
-      pub top-new : (h k n o : ℕ) (new : List ℕ) (c : ℕ) → 0 < length new → c + need W (suc h) o (length new) ≤ lim → held W fresh b′ (build W fresh b (suc h) k n o new c) c
-          → (j : ℕ) → j < W → 0 < partLength (span W h) j o (length new)
-          → link W b′ (fresh (c + need W (suc h) o (length new) - 1)) j ≡ W * fresh (c + needBefore W h o (length new) j + need W h (o - j * span W h) (length (part (span W h) j o new)) - 1)
-      unfolding pointerPage freshPointer
+      pub top-new : (h k n o : ℕ) (new : List ℕ) (c : ℕ) → touched W (suc h) k n o (length new) ≡ true → c + freshNeed W b (suc h) k n o (length new) ≤ lim
+          → held W fresh b′ (build W fresh b (suc h) k n o new c) c → (j : ℕ) → j < W
+          → touched W h (link W b k j / W) (n - j * span W h) (o - j * span W h) (partLength (span W h) j o (length new)) ≡ true
+          → link W b′ (fresh (c + freshNeed W b (suc h) k n o (length new) - 1)) j
+          ≡ W * fresh (c + freshBefore W b h k n o (length new) j + freshNeed W b h (link W b k j / W) (n - j * span W h) (o - j * span W h) (length (part (span W h) j o new)) - 1)
+      unfolding pointerPage
       top-new h k n o new c p q g j l some =
-          link-cell W pos b′ _ j (nonzero _ (omega (arith, need-pos (suc h) o (length new) p))) ∙ held-root h k n o new c p g j l
-          ∙ choose-pos (partLength (span W h) j o (length new)) _ _ some
-          ∙ ap (λ (l : ℕ). W * fresh (c + needBefore W h o (length new) j + need W h (o - j * span W h) l - 1)) (sym (length-part (span W h) j o new))
+          link-cell W pos b′ _ j (nonzero _ (omega (arith, fresh-pos W b (suc h) k n o (length new) p))) ∙ held-root h k n o new c p g j l
+          ∙ choose-pos (kidNeed W b h k n o (length new) j) _ _ (fresh-pos W b h _ _ _ _ some)
+          ∙ ap (λ (l : ℕ). W * fresh (c + freshBefore W b h k n o (length new) j + freshNeed W b h (link W b k j / W) (n - j * span W h) (o - j * span W h) l - 1)) (sym (length-part (span W h) j o new))
 
-      pub build-changed : (top : ℕ) → ((i : ℕ) → i < lim → fresh i < top) → (h k n o : ℕ) (new : List ℕ) (c m : ℕ) → 0 < length new → c + need W h o (length new) ≤ lim → Small new
-          → held W fresh b′ (build W fresh b h k n o new c) c → agree W b b′ h k n → n ≤ m → Cover n m o (length new) (span W h)
-          → Changed W b b′ top h k (fresh (c + need W h o (length new) - 1)) n m o new (λ q. used fresh q c (need W h o (length new)))
-      unfolding need
-      build-changed top below zero k n o [] c m p r small g a le cover = absurd (omega arith)
-      build-changed top below zero k n o (x ∷ new) c m p r small g a le cover =
+      pub build-changed : (top : ℕ) → ((i : ℕ) → i < lim → fresh i < top) → (h k n o : ℕ) (new : List ℕ) (c m : ℕ) → touched W h k n o (length new) ≡ true
+          → c + freshNeed W b h k n o (length new) ≤ lim → Small new
+          → held W fresh b′ (build W fresh b h k n o new c) c → agree W b b′ h k n → n ≤ m → Reach n m o (length new) (span W h)
+          → Changed W b b′ top h k (fresh (c + freshNeed W b h k n o (length new) - 1)) n m o new (λ q. used fresh q c (freshNeed W b h k n o (length new)))
+      build-changed top below zero k n o new c m p r small g a le reach =
           let e : c + 1 - 1 ≡ c = omega arith in
-          rw e (record {
-            bytes = data-byte k n o (x ∷ new) c m p (omega arith) small g;
+          let one-block : freshNeed W b zero k n o (length new) ≡ 1 = fresh-data W b k n o (length new) p in
+          rw one-block (rw e (record {
+            bytes = data-byte k n o new c m p (omega arith) small g;
             counts = λ q. omega (arith, occ-leaf W pos b′ (fresh c) m q, used-one fresh q c);
             fine = λ s. sound-leaf W pos top b′ (fresh c) m (below c (omega arith));
-          })
-      build-changed top below (suc h) k n o new c m p r small g a le cover =
+          }))
+      build-changed top below (suc h) k n o new c m p r small g a le reach =
           let s = span W h in
           let l = length new in
-          let root = c + need W (suc h) o l - 1 in
-          let root-lt : root < lim = omega (arith, need-pos (suc h) o l p) in
-          node W pos b b′ top h k (fresh root) n m o new _ (λ j q. used fresh q (c + needBefore W h o l j) (need W h (o - j * s) (partLength s j o l)))
+          let root = c + freshNeed W b (suc h) k n o l - 1 in
+          let root-lt : root < lim = omega (arith, fresh-pos W b (suc h) k n o l p) in
+          let count : freshNeed W b (suc h) k n o l ≡ freshBefore W b h k n o l W + 1 = omega (arith, fresh-node W b h k n o l p) in
+          let test : ℕ → Bool = λ j. touched W h (link W b k j / W) (n - j * s) (o - j * s) (partLength s j o l) in
+          node W pos b b′ top h k (fresh root) n m o new _ (λ j q. used fresh q (c + freshBefore W b h k n o l j) (kidNeed W b h k n o l j))
           (λ s. below root root-lt)
-          (λ j j-lt t. elim (split (partLength s j o l) 0) [
-            | inl none ↦ rw (top-old h k n o new c p r g j j-lt none) (elim (split (n - j * s) 0) [
+          (λ j j-lt t. elim (either (test j)) [
+            | inr none ↦ rw (top-old h k n o new c p r g j j-lt none) (elim (split (n - j * s) 0) [
               | inl dead ↦ rw (seen-dead (n - j * s) (link W b k j) (omega arith)) (aligned-zero W pos (m - j * s) 0 (zero-mod W))
               | inr live ↦ rw (seen-live (n - j * s) (link W b k j) live) (rw (aligned-full W pos (n - j * s) (m - j * s) (link W b k j) live (omega arith)) at t)
             ])
-            | inr some ↦ rw (top-new h k n o new c p r g j j-lt some) (aligned-zero W pos (m - j * s) _ (mul-mod-right W _))
+            | inl some ↦ rw (top-new h k n o new c p r g j j-lt some) (aligned-zero W pos (m - j * s) _ (mul-mod-right W _))
           ])
           (λ q.
-          let total : used fresh q c (need W (suc h) o l) ≡ used fresh q c (needBefore W h o l W) + one q (fresh root) =
-          ap (used fresh q c) (omega (arith, need-suc h o l p)) ∙ used-add fresh q c (needBefore W h o l W) 1
-          ∙ ap (λ (x : ℕ). used fresh q c (needBefore W h o l W) + x) (used-one fresh q (c + needBefore W h o l W) ∙ ap (λ (x : ℕ). one q (fresh x)) (omega (arith, need-suc h o l p))) in
-          omega (arith, total, occ-beneath W pos b h k n q, used-before h o l q c W))
-          (λ j j-lt. elim (split (partLength s j o l) 0) [
-            | inl none ↦ weaken W pos b b′ top h _ _ _ _ _ _ (λ q. 0) _ (λ q. omega arith)
-                (kept W pos b b′ top h (link W b k j / W) (link W b′ (fresh root) j / W) (n - j * s) (m - j * s) (o - j * s) (part s j o new) (rw (length-part s j o new) (omega arith)) (omega arith)
-                (cover-child W h o new n m cover j j-lt) (agree-child W pos b b′ h k n a j j-lt)
-                (λ live. ap (λ (x : ℕ). x / W) (top-old h k n o new c p r g j j-lt none ∙ seen-live (n - j * s) (link W b k j) live)))
-            | inr some ↦ rw (top-new h k n o new c p r g j j-lt some) (rw (mul-div-cancel-left _ pos) (rw (← (length-part s j o new))
-                (build-changed top below h (link W b k j / W) (n - j * s) (o - j * s) (part s j o new) (c + needBefore W h o l j) (m - j * s) (rw (length-part s j o new) some)
-                (room h o new c lim p r j j-lt) (small-part s j o new small) (held-child h k n o new c p g j j-lt) (agree-child W pos b b′ h k n a j j-lt) (omega arith) (cover-child W h o new n m cover j j-lt))))
+          let total : used fresh q c (freshNeed W b (suc h) k n o l) ≡ used fresh q c (freshBefore W b h k n o l W) + one q (fresh root) =
+          ap (used fresh q c) count ∙ used-add fresh q c (freshBefore W b h k n o l W) 1
+          ∙ ap (λ (x : ℕ). used fresh q c (freshBefore W b h k n o l W) + x) (used-one fresh q (c + freshBefore W b h k n o l W) ∙ ap (λ (x : ℕ). one q (fresh x)) (omega arith)) in
+          omega (arith, total, occ-beneath W pos b h k n q, used-before h k n o l q c W))
+          (λ j j-lt. elim (either (test j)) [
+            | inr none ↦ weaken W pos b b′ top h _ _ _ _ _ _ (λ q. 0) _ (λ q. omega arith)
+                (passed W pos b b′ top h (link W b k j / W) (link W b′ (fresh root) j / W) (n - j * s) (m - j * s) (o - j * s) (part s j o new)
+                (rw (length-part s j o new) none) (omega arith) (reach-child W h o new n m reach j j-lt) (agree-child W pos b b′ h k n a j j-lt)
+                (ap (λ (x : ℕ). x / W) (top-old h k n o new c p r g j j-lt none) ∙ seen-block W (n - j * s) (link W b k j)))
+            | inl some ↦ rw (top-new h k n o new c p r g j j-lt some) (rw (mul-div-cancel-left _ pos) (rw (← (length-part s j o new))
+                (build-changed top below h (link W b k j / W) (n - j * s) (o - j * s) (part s j o new) (c + freshBefore W b h k n o l j) (m - j * s) (rw (length-part s j o new) some)
+                (room h k n o new c lim p r j j-lt) (small-part s j o new small) (held-child h k n o new c p g j j-lt) (agree-child W pos b b′ h k n a j j-lt) (omega arith) (reach-child W h o new n m reach j j-lt))))
           ])
 
--- ---- Past the new size
+      -- where no block exists
+      pub build-null-changed : (top : ℕ) → ((i : ℕ) → i < lim → fresh i < top) → (h o : ℕ) (new : List ℕ) (c m : ℕ) → 0 < length new → c + need W h o (length new) ≤ lim → Small new
+          → held W fresh b′ (build W fresh b h 0 0 o new c) c → Reach 0 m o (length new) (span W h)
+          → Changed W b b′ top h 0 (fresh (c + need W h o (length new) - 1)) 0 m o new (λ q. used fresh q c (need W h o (length new)))
+      build-null-changed top below h o new c m some r small g reach =
+          let count : freshNeed W b h 0 0 o (length new) ≡ need W h o (length new) = fresh-quiet W b h 0 0 o (length new) (inl refl) in
+          subst (λ (x : ℕ). Changed W b b′ top h 0 (fresh (c + x - 1)) 0 m o new (λ q. used fresh q c x)) count
+          (build-changed top below h 0 0 o new c m (touched-new W h 0 0 o (length new) some) (rw count r) small g (agree-none W pos b b′ h 0 0 refl) (omega arith) reach)
 
-word-zero : (W : ℕ) (b : List ℕ) (k n o : ℕ) (new : List ℕ) → Small new → (i : ℕ) → n ≤ i → o + length new ≤ i → byteOf (dataPage W b k n o new (i / 8)) (i % 8) ≡ 0
+-- ---- Where nothing is visible and nothing written
+
+word-zero : (W : ℕ) (b : List ℕ) (k n o : ℕ) (new : List ℕ) → Small new → (i : ℕ) → n ≤ i → (o ≤ i → o + length new ≤ i) → byteOf (dataPage W b k n o new (i / 8)) (i % 8) ≡ 0
 word-zero W b k n o new small i past beyond =
-    data-page-byte W b k n o new small (i / 8) (i % 8) (omega arith) ∙ splice-right o new _ (8 * (i / 8) + i % 8) (omega arith) ∙ seen-dead (n - (8 * (i / 8) + i % 8)) _ (omega arith)
+    let e : 8 * (i / 8) + i % 8 ≡ i = omega arith in
+    data-page-byte W b k n o new small (i / 8) (i % 8) (omega arith)
+    ∙ splice-skip o new _ (8 * (i / 8) + i % 8) (λ u v. omega (arith, beyond (omega arith))) ∙ seen-dead (n - (8 * (i / 8) + i % 8)) _ (omega arith)
 
-no-part : (s j o l : ℕ) → o + l ≤ j * s → partLength s j o l ≡ 0
+no-part : (s j o l : ℕ) → (o < j * s + s → o + l ≤ j * s) → partLength s j o l ≡ 0
 unfolding partLength
-no-part s j o l h = omega arith
+no-part s j o l h = elim (split (j * s + s) o) [
+  | inl u ↦ omega arith
+  | inr u ↦ omega (arith, h u)
+]
 
 pub fresh-block-rule : FreshBlockRule
 unfolding pointerPage
 fresh-block-rule W b k n o new = (
   λ i past beyond. word-zero W b k n o (new .values) (bytes-small (new .values) (new .small)) i past beyond,
-  λ fresh h c j past beyond. choose-zero (partLength (span W h) j o (length (new .values))) _ _ (no-part (span W h) j o (length (new .values)) beyond) ∙ seen-dead (n - j * span W h) (link W b k j) (omega arith),
+  λ fresh h c j past beyond.
+      let s = span W h in
+      let none : partLength s j o (length (new .values)) ≡ 0 = no-part s j o (length (new .values)) beyond in
+      choose-zero (kidNeed W b h k n o (length (new .values)) j) _ _ (fresh-none W b h _ _ _ _ (untouched-dead W h (link W b k j / W) (n - j * s) (o - j * s) _ none (omega arith)))
+      ∙ seen-dead (n - j * s) (link W b k j) (omega arith),
 )

@@ -1,6 +1,7 @@
 -- A tree that is changed by a write: what it reads as, which blocks it has, and that it is sound.
 use mathlib.Core.Path.{_≡_, sym, ap, _∙_, subst}
 use mathlib.Core.Logic.{inl, inr}
+use mathlib.Core.Bool.{false, false≢true}
 use mathlib.Core.List.{List}
 use Prim.Native.Nat.{ℕ, suc, _+_, _-_, _*_, _/_, _%_, _≤_, _<_}
 use native.Mathlib.Omega.{arith}
@@ -8,14 +9,16 @@ use native.Mathlib.Nat.{mod-lt, div-add-mod'}
 use lib.ListN.{length}
 use lib.Dec.{T}
 use Rattle.model.specs.Lists.{sum}
-use Rattle.model.specs.Tree.{span, aligned, link, blocks, sound}
-use Rattle.model.specs.Fresh.{splice, part}
+use Rattle.model.specs.Tree.{seen, span, aligned, link, blocks, sound}
+use Rattle.model.specs.Fresh.{splice, part, touched}
 use Rattle.model.proofs.Cases.{split}
 use Rattle.model.proofs.Sums.{sum-le, sum-add}
 use Rattle.model.proofs.Counting.{one, occ}
 use Rattle.model.proofs.Spans.{child, span-pos}
-use Rattle.model.proofs.Agree.{byteAt, agree, agree-byte, agree-blocks, agree-sound, occ-above, beneath, sound-child, sound-node, byteAt-size, blocks-none, sound-none, blocks-full, sound-full}
-use Rattle.model.proofs.Splice.{Cover, splice-none, splice-part}
+use Rattle.model.proofs.Agree.{byteAt, byteAt-null, byteAt-past, seen-live, seen-dead, agree, agree-byte, agree-blocks, agree-sound, occ-above, beneath, sound-child, sound-node, byteAt-size, blocks-none, sound-none, blocks-full, sound-full}
+use Rattle.model.proofs.Splice.{Cover, Reach, splice-none, splice-part}
+use Rattle.model.proofs.Paths.{touched-last, untouched-part}
+use Rattle.model.proofs.Trees.{blocks-null, sound-null}
 
 module _ (W : ℕ) (b b′ : List ℕ) (top : ℕ) where
   -- (h, k, n) on b has become (h, k′, m) on b′: `new` is written at o, and only the extra blocks are more
@@ -65,6 +68,32 @@ module _ (W : ℕ) (pos : 0 < W) (b b′ : List ℕ) (top : ℕ) where
           (agree-sound W pos b b′ top h k n a ∙ sound-full W pos top b′ h k n m wide (omega arith))
     ])
   ]
+
+  -- a tree in which nothing is written and which takes no fresh block. Where it isn't live, and where no block of it exists, more of it may be seen:
+  -- there its pointer is null
+  pub passed : (h k k′ n m o : ℕ) (new : List ℕ) → touched W h k n o (length new) ≡ false → n ≤ m → Reach n m o (length new) (span W h) → agree W b b′ h k n → k′ ≡ seen n k
+      → Changed W b b′ top h k k′ n m o new (λ q. 0)
+  passed h k k′ n m o new untouched le reach a keep =
+      let none : length new ≡ 0 = untouched-part W h k n o (length new) untouched in
+      elim (split n 0) [
+        | inl dead ↦
+            let null : k′ ≡ 0 = keep ∙ seen-dead n k (omega arith) in
+            rw null (alike h k 0 n m o new none
+            (λ i l v. byteAt-past W pos b h k n i (omega arith) ∙ sym (byteAt-null W b′ h m i))
+            (blocks-none W pos b h k n (omega arith) ∙ sym (blocks-null W b′ h m)) (sound-none W pos top b h k n (omega arith) ∙ sym (sound-null W b′ top h m)))
+        | inr live ↦
+            let same : k′ ≡ k = keep ∙ seen-live n k live in
+            elim (split k 0) [
+              | inl hole ↦
+                  let null : k ≡ 0 = omega arith in
+                  rw (same, null) (alike h 0 0 n m o new none
+                  (λ i l v. byteAt-null W b h n i ∙ sym (byteAt-null W b′ h m i))
+                  (blocks-null W b h n ∙ sym (blocks-null W b′ h m)) (sound-null W b top h n ∙ sym (sound-null W b′ top h m)))
+              | inr there ↦ kept h k k′ n m o new none le
+                  (λ i u v w. absurd (false≢true (sym untouched ∙ touched-last W h k n o (length new) (omega (arith, reach n (omega arith) (omega arith) (omega arith))) there live (omega arith))))
+                  a (λ z. same)
+            ]
+      ]
 
   -- a pointer block whose children are changed
   pub node : (h k k′ n m o : ℕ) (new : List ℕ) (extra : ℕ → ℕ) (extras : ℕ → ℕ → ℕ)

@@ -7,7 +7,7 @@ use Rattle.model.specs.Board.{rootWalk, rootBlocks, rootSound, trailerWo
 use Rattle.model.specs.Store.{store, barrier, isBarrier, performed, stores, opening, epochs, fenced, flat, paired, laid}
 use Rattle.model.specs.Hidden.{keepsBytes, hiddenUnder, hiddenInFile, hidden}
 use Rattle.model.specs.Plan.{step, stepEpochs, planEpochs, plan, pairs, afterwards}
-use Rattle.model.specs.Fresh.{splice, part, partLength, need, needBefore, dataPage, stored, freshPointer, pointerPage, build}
+use Rattle.model.specs.Fresh.{splice, part, partLength, touched, freshNeed, freshBefore, need, dataPage, stored, freshPointer, pointerPage, build}
 use Rattle.model.specs.InPlace.{atBlock, tailNeed, tailBefore, walkLive, tailPages, tailWords, hooked, inPlace}
 use Rattle.model.specs.Change.{levelPage, levelBelow, levels, levelTop, growthTo, growth, splicedWord, singleBlock, singleWord, isTail, emptyTail, tail, descend, shadowInside, leafPage, shadowWithLength, chosenWay, writePlan, cleared, lengthPlan}
 use Rattle.model.specs.Format.{inodePage, formatPages, trailerAddress, trailerStores, formatPlan}
@@ -15,7 +15,7 @@ use Rattle.model.specs.Answers.{number, signed, answered, unlessRefused,
 use Rattle.model.specs.Calls.{wordCountFault, boardFaults, fileFaults, checkAnswer, freeCountAnswer, sizeAnswer, readCount, readAnswer, readBuffer, planned, lowest, writeFaults, write, setLength, format, performFaults, performAnswer, performBoard}
 use Rattle.model.specs.Cabinet.{imageFaults, imageCheckAnswer, imageCheck, imageSize, imageReadAnswer, imageRead, imageReadBuffer}
 use Rattle.model.specs.Lister.{dataBlocks, digits, decimal, field, line, fileLine, boardLines, answerLines, listing}
-use Rattle.model.specs.Cut.{fileOf, called, planOf, altered, after, chosen, standing, lastArrived}
+use Rattle.model.specs.Cut.{fileOf, called, planOf, overwritten, altered, after, chosen, standing, lastArrived}
 
 unfoldable pub computes : Unit {0}
 unfolding tabulate joined sum every some all consIf filter concat pickFrom member distinct choose
@@ -26,7 +26,7 @@ unfolding tabulate joined sum every some all consIf filter concat pickFrom membe
     store barrier isBarrier performed stores opening epochs fenced flat paired laid
     keepsBytes hiddenUnder hiddenInFile hidden
     step stepEpochs planEpochs plan pairs afterwards
-    splice part partLength need needBefore dataPage stored freshPointer pointerPage build
+    splice part partLength touched freshNeed freshBefore need dataPage stored freshPointer pointerPage build
     atBlock tailNeed tailBefore walkLive tailPages tailWords hooked inPlace
     levelPage levelBelow levels levelTop growthTo growth splicedWord singleBlock singleWord isTail emptyTail tail descend shadowInside leafPage shadowWithLength chosenWay writePlan cleared lengthPlan
     inodePage formatPages trailerAddress trailerStores formatPlan
@@ -34,5 +34,5 @@ unfolding tabulate joined sum every some all consIf filter concat pickFrom membe
     wordCountFault boardFaults fileFaults checkAnswer freeCountAnswer sizeAnswer readCount readAnswer readBuffer planned lowest writeFaults write setLength format performFaults performAnswer performBoard
     imageFaults imageCheckAnswer imageCheck imageSize imageReadAnswer imageRead imageReadBuffer
     dataBlocks digits decimal field line fileLine boardLines answerLines listing
-    fileOf called planOf altered after chosen standing lastArrived
+    fileOf called planOf overwritten altered after chosen standing lastArrived
 computes = tt

@@ -27,6 +27,7 @@ use Rattle.model.proofs.Perform.{address-block}
 use Rattle.model.proofs.Trees.{childBlocks, walk-null}
 use Rattle.model.proofs.Agree.{byteAt, seen-live, frame, beneath, aligned-zero, sound-child, sound-root, occ-children, occ-root, occ-child}
 use Rattle.model.proofs.Splice.{Small, length-part, splice-small, splice-part, splice-skip, part-whole, part-none}
+use Rattle.model.proofs.Paths.{touched-new}
 use Rattle.model.proofs.Changed.{Changed, weaken, kept, node}
 use Rattle.model.proofs.Built.{held, used, length-build, build-changed}
 use Rattle.model.proofs.Shown.{place-in-block}
@@ -212,7 +213,7 @@ module _ (W : ℕ) (pos : 0 < W) (fresh : ℕ → ℕ) (b b₂ : List ℕ) (new 
   stop h k n o a r k₂ own other =
       let len = length-build W pos b fresh h k n o new c in
       rw (own refl, r .value, len)
-      (build-changed W pos b fresh b₂ lim nonzero top below h k n o new c n some (omega (arith, len, r .room)) small (r .holds)
+      (build-changed W pos b fresh b₂ lim nonzero top below h k n o new c n (touched-new W h k n o (length new) some) (omega (arith, len, r .room)) small (r .holds)
       (frame W pos b b₂ h k n (λ q f t l. r .replaced .same q f t l (λ e. omega (arith, subst (λ (x : ℕ). 0 < occ x (blocks W b h k n)) (sym (block-of W q t a l e)) f, r .outside))))
       (omega arith) (λ i u w l. absurd (omega arith)))
 

@@ -1,4 +1,4 @@
--- Shadow with length: fresh blocks for the written paths of a file's tree and a fresh copy of its inode leaf. The commit is the inode pointer.
+-- Shadow with length: fresh blocks for the paths of a file's tree to written bytes and to the last byte before, and a fresh copy of its inode leaf. The commit is the inode pointer.
 use mathlib.Core.Path.{_≡_, refl, sym, ap, _∙_, subst}
 use mathlib.Core.Logic.{_≢_, inl, inr}
 use mathlib.Core.List.{List, [], _∷_, _++_, append-nil}
@@ -14,13 +14,14 @@ use Rattle.model.specs.Tree.{span, cell}
 use Rattle.model.specs.Board.{rootBlocks, greatest, blockCount, trailer, inodeBlock, inodePointer, leaf, rootAddress, sizeAddress, root, size, fileBlocks, liveBlocks, inRange, leafSound, accepted}
 use Rattle.model.specs.Store.{Store, store, performed}
 use Rattle.model.specs.Plan.{Step, step}
-use Rattle.model.specs.Fresh.{Page, need, stored, build}
+use Rattle.model.specs.Fresh.{Page, freshNeed, stored, build}
 use Rattle.model.specs.Change.{leafPage}
 use Rattle.model.proofs.Cases.{decide, and-both}
 use Rattle.model.proofs.Counting.{one, occ}
 use Rattle.model.proofs.Perform.{All, address-block}
 use Rattle.model.proofs.Agree.{agree, frame, cell-away}
-use Rattle.model.proofs.Splice.{Small, Cover, past-span}
+use Rattle.model.proofs.Splice.{Small, Reach, past-span}
+use Rattle.model.proofs.Paths.{touched-new}
 use Rattle.model.proofs.Changed.{Changed}
 use Rattle.model.proofs.Built.{held, used, used-add, used-one, length-build, held-left, held-right, build-changed}
 use Rattle.model.proofs.Shown.{Same, words-pos, count-kept, inode-kept, trailer-kept, leaf-kept, leaf-sound-kept, inode-live, leaf-live, file-live, leaf-of, slot}
@@ -91,7 +92,7 @@ size-word g b f = ap (λ (x : ℕ). getD b x 0) (add-assoc (g .words * leaf g b 
 -- ---- The step is good
 
 module _ (g : Layout) (fit : Fits g) (b : List ℕ) (t : T (accepted g b)) (f : ℕ) (f-lt : f < files g) (o : ℕ) (new : List ℕ) (some : 0 < length new) (small : Small new)
-    (live : 0 < size g b f) (within : o ≤ size g b f) (beyond : size g b f < o + length new) (under : o + length new ≤ span (g .words) (root g b f % g .words))
+    (live : 0 < size g b f) (beyond : size g b f < o + length new) (under : o + length new ≤ span (g .words) (root g b f % g .words))
     (most : o + length new ≤ greatest g) (fresh : ℕ → ℕ) (c lim : ℕ) (supply : Supply g b fresh c lim) (room : c + length (treePages g fresh b f o new c) + 1 ≤ lim) where
   ok : Facts g b
   ok = facts g fit b t
@@ -253,17 +254,17 @@ module _ (g : Layout) (fit : Fits g) (b : List ℕ) (t : T (accepted g b)) (f : 
   block-new : root g b₂ f / g .words ≡ fresh (c + length ps - 1)
   block-new = ap (λ (x : ℕ). x / g .words) root-new ∙ address-block (g .words) (fresh (c + length ps - 1)) (root g b f % g .words) (mod-lt (root g b f) pos)
 
-  -- what lies past the old size is written
-  cover : Cover (size g b f) m o (length new) (span (g .words) (root g b f % g .words))
-  cover i u v w = (omega arith, omega arith)
+  -- what lies past the old size ends where the written bytes end
+  reach : Reach (size g b f) m o (length new) (span (g .words) (root g b f % g .words))
+  reach i u v w = omega arith
 
   changed : Changed (g .words) b b₂ (blockCount g b - 1) (root g b f % g .words) (root g b f / g .words) (root g b₂ f / g .words) (size g b f) m o new (λ q. used fresh q c (length ps))
   changed =
-      let count : need (g .words) (root g b f % g .words) o (length new) ≡ length ps = sym (length-build (g .words) pos b fresh (root g b f % g .words) (root g b f / g .words) (size g b f) o new c) in
+      let count : freshNeed (g .words) b (root g b f % g .words) (root g b f / g .words) (size g b f) o (length new) ≡ length ps = sym (length-build (g .words) pos b fresh (root g b f % g .words) (root g b f / g .words) (size g b f) o new c) in
       rw block-new (subst
       (λ (x : ℕ). Changed (g .words) b b₂ (blockCount g b - 1) (root g b f % g .words) (root g b f / g .words) (fresh (c + x - 1)) (size g b f) m o new (λ q. used fresh q c x)) count
-      (build-changed (g .words) pos b fresh b₂ lim (supply .nonzero) (blockCount g b - 1) (supply .below) (root g b f % g .words) (root g b f / g .words) (size g b f) o new c m some
-      (omega (arith, count)) small tree-held (tree-stays f f-lt) (omega arith) cover))
+      (build-changed (g .words) pos b fresh b₂ lim (supply .nonzero) (blockCount g b - 1) (supply .below) (root g b f % g .words) (root g b f / g .words) (size g b f) o new c m
+      (touched-new (g .words) (root g b f % g .words) (root g b f / g .words) (size g b f) o (length new) some) (omega (arith, count)) small tree-held (tree-stays f f-lt) (omega arith) reach))
 
   written : Written g fit b b₂ len f (root g b f % g .words) (root g b f / g .words) o m new (λ q. used fresh q c (length ps))
   written = record {

@@ -16,6 +16,7 @@ pub mod Trees
 pub mod Walks
 pub mod Agree
 pub mod Splice
+pub mod Paths
 pub mod Changed
 pub mod Built
 pub mod InPlaceStores

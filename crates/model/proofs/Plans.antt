@@ -4,8 +4,8 @@ use mathlib.Core.Logic.{_↔_, inl, inr}
 use mathlib.Core.List.{List, [], _∷_, _++_, append-nil}
 use Prim.Native.Nat.{ℕ, zero, suc, _+_, _-_, _*_, _/_, _%_, _≤_, _<_}
 use native.Mathlib.Omega.{arith}
-use native.Mathlib.Nat.{add-zero, zero-add, sub-zero, mul-zero, mul-pos}
-use lib.ListN.{length, take, drop, replicate, take-append-drop}
+use native.Mathlib.Nat.{zero-add, sub-zero, mul-zero, mul-pos}
+use lib.ListN.{length, take, replicate}
 use lib.Seq.{take-all}
 use lib.Dec.{T}
 use borrow.Author.Tests.{lt-ltb, le-ltb, eq-eqb, ne-eqb}
@@ -19,6 +19,7 @@ use Rattle.model.specs.Fresh.{stored}
 use Rattle.model.specs.InPlace.{inPlace}
 use Rattle.model.specs.Change.{growthTo, growth, singleBlock, chosenWay, writePlan, cleared, lengthPlan}
 use Rattle.model.specs.Calls.{lowest}
+use Rattle.model.specs.Cut.{overwritten}
 use Rattle.model.proofs.Cases.{split, decide}
 use Rattle.model.proofs.Counting.{occ}
 use Rattle.model.proofs.Perform.{All}
@@ -31,7 +32,7 @@ use Rattle.model.proofs.GoodSteps.{GoodStep, GoodSteps}
 use Rattle.model.proofs.Taking.{Takes, blocksOf, takes-blocks, steps-blocks, in-place-live}
 use Rattle.model.proofs.SizeWays.{shorten-good, lengthen-empty-good, lengthen-good}
 use Rattle.model.proofs.GrowthWay.{growthStep, growth-performed, growth-takes, growth-counts, growth-grows, growth-empty, growth-spanned, growth-good, growth-size, growth-reaches, growth-supply}
-use Rattle.model.proofs.Ways.{length-contents, lengthened, spliced-cuts, spliced-lengthens, OneStep, way-good, taken-from}
+use Rattle.model.proofs.Ways.{length-contents, rewritten, lengthened, spliced-cuts, spliced-lengthens, OneStep, way-good, taken-from}
 
 -- ---- Good plans
 
@@ -145,7 +146,7 @@ module _ (g : Layout) (fit : Fits g) (b : List ℕ) (t : T (accepted g b)) (f : 
 
 -- ---- Write
 
-module _ (g : Layout) (fit : Fits g) (b : List ℕ) (t : T (accepted g b)) (f : ℕ) (f-lt : f < files g) (o : ℕ) (within : o ≤ size g b f) where
+module _ (g : Layout) (fit : Fits g) (b : List ℕ) (t : T (accepted g b)) (f : ℕ) (f-lt : f < files g) (o : ℕ) where
   abbrev fresh : ℕ → ℕ
   fresh = lowest g b
 
@@ -162,7 +163,7 @@ module _ (g : Layout) (fit : Fits g) (b : List ℕ) (t : T (accepted g b)) (f : 
     way c k = chosenWay g fresh c f (singleBlock g c f o (o + length new)) o new k
 
     abbrev wanted : List ℕ
-    wanted = take o (contents g b f) ++ new ++ drop (o + length new) (contents g b f)
+    wanted = rewritten g fit b f o new
 
     abbrev Wanted : Plan → Type 0
     Wanted p = p .taken ≤ lim → GoodPlan g b f wanted p
@@ -170,13 +171,13 @@ module _ (g : Layout) (fit : Fits g) (b : List ℕ) (t : T (accepted g b)) (f : 
     no-growth : (0 < size g b f → o + length new ≤ span (g .words) (root g b f % g .words)) → Wanted (after (plan [] 0))
     unfolding plan afterwards planEpochs concat performed
     no-growth reach room =
-        let w : OneStep g b f fresh 0 wanted (way b 0) = way-good g fit b t f f-lt o new some small within most reach fresh 0 lim (supply-lowest g b) (singleBlock g b f o (o + length new)) refl room in
+        let w : OneStep g b f fresh 0 wanted (way b 0) = way-good g fit b t f f-lt o new some small most reach fresh 0 lim (supply-lowest g b) (singleBlock g b f o (o + length new)) refl room in
         one-plan g fit b f wanted (way b 0) w
 
     -- the way that follows, on a board c where the file reads the same
     follows : (c : List ℕ) → T (accepted g c) → size g c f ≡ size g b f → contents g c f ≡ contents g b f → o + length new ≤ span (g .words) (root g c f % g .words)
         → (k : ℕ) → Supply g c fresh k lim → way c k .taken ≤ lim → OneStep g c f fresh k wanted (way c k)
-    follows c u sizes reads reach k supply room = rw (← reads) (way-good g fit c u f f-lt o new some small (rw sizes within) most (λ l. reach) fresh k lim supply (singleBlock g c f o (o + length new)) refl room)
+    follows c u sizes reads reach k supply room = rw (← reads) (way-good g fit c u f f-lt o new some small most (λ l. reach) fresh k lim supply (singleBlock g c f o (o + length new)) refl room)
 
     grows : 0 < size g b f → span (g .words) (root g b f % g .words) < o + length new → Wanted (after (growthTo g fresh b f (least (g .words) (g .height) (o + length new))))
     unfolding growthTo plan afterwards
@@ -206,7 +207,7 @@ module _ (g : Layout) (fit : Fits g) (b : List ℕ) (t : T (accepted g b)) (f : 
     ]
 
   pub write-good : (new : List ℕ) → Small new → o + length new ≤ greatest g → writePlan g (lowest g b) b f o new .taken ≤ length (free g b)
-      → GoodPlan g b f (take o (contents g b f) ++ new ++ drop (o + length new) (contents g b f)) (writePlan g (lowest g b) b f o new)
-  unfolding writePlan plan
-  write-good [] small most room = none-good g fit b f _ (rw (add-zero o, append-nil (take o (contents g b f))) (sym (take-append-drop o (contents g b f))))
+      → GoodPlan g b f (overwritten o new (contents g b f)) (writePlan g (lowest g b) b f o new)
+  unfolding writePlan plan overwritten
+  write-good [] small most room = none-good g fit b f _ refl
   write-good (x ∷ new) small most room = write-some (x ∷ new) (omega arith) small most room

@@ -9,11 +9,11 @@ use lib.Dec.{T, leb, ltb}
 use borrow.Author.Tests.{leb-false, ltb-false}
 use Rattle.model.specs.declared.Answer.the-variants.{Done, Refused}
 use Rattle.model.specs.declared.Answer.{Answer}
-use Rattle.model.specs.declared.Fault.the-variants.{FileNumber, Offset, End, FreeBlocks}
+use Rattle.model.specs.declared.Fault.the-variants.{FileNumber, End, FreeBlocks}
 use Rattle.model.specs.declared.Fault.{Fault}
 use Rattle.model.specs.Lists.{all, filter, concat, member, distinct}
 use Rattle.model.specs.Layout.{Layout, Fits, files}
-use Rattle.model.specs.Board.{greatest, size, contents, free, inRange, accepted}
+use Rattle.model.specs.Board.{greatest, contents, free, inRange, accepted}
 use Rattle.model.specs.Store.{Store, performed, stores, epochs, fenced}
 use Rattle.model.specs.Hidden.{hidden}
 use Rattle.model.specs.Plan.{Step, stepEpochs, planEpochs, Plan, pairs}
@@ -170,12 +170,12 @@ unfolding called write setLength writeFaults fileOf altered planFor All
 call-either g fit b t (writing f o new) slice =
     let q : Plan = writePlan g (lowest g b) b f o (new .values) in
     let e : ℕ = o + length (new .values) in
-    let own : Faults = (Offset, ltb (size g b f) o) ∷ (End, ltb (greatest g) e) ∷ (FreeBlocks, ltb (length (free g b)) (q .taken)) ∷ [] in
+    let own : Faults = (End, ltb (greatest g) e) ∷ (FreeBlocks, ltb (length (free g b)) (q .taken)) ∷ [] in
     doing-either g b (writing f o new) (fileFaults g b f ++ own) slice (λ h.
     let file : f < files g = file-passed g b f (all-left Passed (fileFaults g b f) own h) in
     let rest : All Passed own = all-right Passed (fileFaults g b f) own h in (
       file,
-      write-good g fit b t f file o (ltb-false (size g b f) o (rest .0)) (new .values) (bytes-small (new .values) (new .small)) (ltb-false (greatest g) e (rest .1 .0)) (ltb-false (length (free g b)) (q .taken) (rest .1 .1 .0)),
+      write-good g fit b t f file o (new .values) (bytes-small (new .values) (new .small)) (ltb-false (greatest g) e (rest .0)) (ltb-false (length (free g b)) (q .taken) (rest .1 .0)),
     ))
 call-either g fit b t (lengthTo f n) slice =
     let own : Faults = (End, ltb (greatest g) n) ∷ [] in

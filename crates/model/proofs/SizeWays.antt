@@ -24,10 +24,10 @@ use Rattle.model.proofs.Spans.{least-within, least-reaches}
 use Rattle.model.proofs.Perform.{All, all-append, address-block}
 use Rattle.model.proofs.Addresses.{addresses, addresses-away, Stands, all-map, all-left, all-right, occ-addresses-append, stored-once, held-of-all}
 use Rattle.model.proofs.Trees.{sound-null}
-use Rattle.model.proofs.Agree.{agree-away, agree-refl, agree-none}
+use Rattle.model.proofs.Agree.{agree-away, agree-refl}
 use Rattle.model.proofs.Splice.{Small, splice-none, past-span}
 use Rattle.model.proofs.Changed.{Changed, changed-to}
-use Rattle.model.proofs.Built.{used, length-build, build-changed}
+use Rattle.model.proofs.Built.{used, length-build-null, build-null-changed}
 use Rattle.model.proofs.InPlaceStores.{in-place-hidden, in-place-once}
 use Rattle.model.proofs.Tailed.{zeros-replicate, splice-zeros, hole-changed, length-tail, tail-changed, length-changed}
 use Rattle.model.proofs.Shrunk.{shrink-changed}
@@ -301,23 +301,23 @@ module _ (g : Layout) (fit : Fits g) (b : List ℕ) (t : T (accepted g b)) (f : 
               spare = λ q. rw (← taken) (supply-once g b fresh c lim supply (ok .once) (length tails) room q);
             })
 
-    -- s = 0: *the old root is ignored and the least sufficient height is used*
-    module _ (empty : size g b f ≡ 0) (most : length new ≤ greatest g) where
+    -- s = 0: *the old root is ignored and the least sufficient height is used*, wherever the bytes begin
+    module _ (empty : size g b f ≡ 0) (o : ℕ) (most : o + length new ≤ greatest g) where
       abbrev h : ℕ
-      h = least (g .words) (g .height) (length new)
+      h = least (g .words) (g .height) (o + length new)
 
       abbrev pages : List Page
-      pages = build (g .words) fresh b h 0 0 0 new c
+      pages = build (g .words) fresh b h 0 0 o new c
 
       abbrev hook : ℕ
-      hook = freshPointer (g .words) fresh h 0 (length new) c + h
+      hook = freshPointer (g .words) fresh h o (length new) c + h
 
       module _ (room : c + length pages ≤ lim) where
         abbrev first-epoch : List Store
         first-epoch = stored (g .words) fresh pages c ++ (store (rootAddress g b f) hook ∷ [])
 
-        first-taken : length pages ≡ need (g .words) h 0 (length new)
-        first-taken = length-build (g .words) pos b fresh h 0 0 0 new c
+        first-taken : length pages ≡ need (g .words) h o (length new)
+        first-taken = length-build-null (g .words) pos b fresh h 0 o new c
 
         first-hidden : All (λ s. T (hidden g b s)) first-epoch
         unfolding All
@@ -342,36 +342,36 @@ module _ (g : Layout) (fit : Fits g) (b : List ℕ) (t : T (accepted g b)) (f : 
         ]
 
         h-fits : h < g .words
-        h-fits = omega (arith, fit .heights-fit, least-within (g .words) pos (g .height) (length new))
+        h-fits = omega (arith, fit .heights-fit, least-within (g .words) pos (g .height) (o + length new))
 
         hook-low : hook % g .words ≡ h
         unfolding freshPointer
-        hook-low = mul-add-mod-self-left (g .words) (fresh (c + need (g .words) h 0 (length new) - 1)) h ∙ mod-eq-of-lt h-fits
+        hook-low = mul-add-mod-self-left (g .words) (fresh (c + need (g .words) h o (length new) - 1)) h ∙ mod-eq-of-lt h-fits
 
-        hook-block : hook / g .words ≡ fresh (c + need (g .words) h 0 (length new) - 1)
+        hook-block : hook / g .words ≡ fresh (c + need (g .words) h o (length new) - 1)
         unfolding freshPointer
-        hook-block = address-block (g .words) (fresh (c + need (g .words) h 0 (length new) - 1)) h h-fits
+        hook-block = address-block (g .words) (fresh (c + need (g .words) h o (length new) - 1)) h h-fits
 
         Held : Store → Type 0
         Held s = getD (performed b first-epoch) (s .at) 0 ≡ s .value
 
-        pub empty-tail-good : GoodStep g b f (step first-epoch (sizeAddress g b f) (length new)) (spliced g b f (size g b f) new (length new))
+        pub empty-tail-good : GoodStep g b f (step first-epoch (sizeAddress g b f) (o + length new)) (spliced g b f o new (o + length new))
         unfolding Held All store greatest
         empty-tail-good =
             let all-stand : Stands (performed b first-epoch) first-epoch = stands first-epoch first-hidden first-once in
-            let top : ℕ = fresh (c + need (g .words) h 0 (length new) - 1) in
+            let top : ℕ = fresh (c + need (g .words) h o (length new) - 1) in
             let root-is : root g (performed b first-epoch) f ≡ hook = root-stored first-epoch first-hidden hook
             (all-right Held (stored (g .words) fresh pages c) (store (rootAddress g b f) hook ∷ []) all-stand .0) in
-            size-good first-epoch first-hidden first-once h 0 (size g b f) (length new) new (λ q. used fresh q c (need (g .words) h 0 (length new))) (record {
+            size-good first-epoch first-hidden first-once h 0 o (o + length new) new (λ q. used fresh q c (need (g .words) h o (length new))) (record {
               old = λ live. absurd (omega arith);
               height = ap (λ (x : ℕ). x % g .words) root-is ∙ hook-low;
-              low = least-within (g .words) pos (g .height) (length new);
+              low = least-within (g .words) pos (g .height) (o + length new);
               most = most;
-              past = past-span (size g b f) new (span (g .words) h) (length new) (omega (arith, least-reaches (g .words) pos (g .height) (length new) most));
-              change = rw (ap (λ (x : ℕ). x / g .words) root-is ∙ hook-block, empty) (build-changed (g .words) pos b fresh (performed b first-epoch) lim (supply .nonzero) (blockCount g b - 1) (supply .below)
-                  h 0 0 0 new c (length new) filled (rw (← first-taken) room) small
+              past = past-span o new (span (g .words) h) (o + length new) (omega (arith, least-reaches (g .words) pos (g .height) (o + length new) most));
+              change = rw (ap (λ (x : ℕ). x / g .words) root-is ∙ hook-block, empty) (build-null-changed (g .words) pos b fresh (performed b first-epoch) lim (supply .nonzero) (blockCount g b - 1) (supply .below)
+                  h o new c (o + length new) filled (rw (← first-taken) room) small
                   (held-of-all (g .words) fresh (performed b first-epoch) pages c (all-left Held (stored (g .words) fresh pages c) (store (rootAddress g b f) hook ∷ []) all-stand))
-                  (agree-none (g .words) pos b (performed b first-epoch) h 0 0 refl) (omega arith) (λ i u v w. (u, omega arith)));
+                  (λ i u v w. omega arith));
               fine = rw (sound-null (g .words) b (blockCount g b - 1) h (size g b f)) tt;
               spare = λ q. rw (← first-taken) (supply-once g b fresh c lim supply (ok .once) (length pages) room q);
             })

@@ -115,6 +115,10 @@ inside s j o l r p u v = omega arith
 abbrev pub Cover : ℕ → ℕ → ℕ → ℕ → ℕ → Type 0
 Cover n m o l s = (i : ℕ) → n ≤ i → i < m → i < s → (o ≤ i) × (i < o + l)
 
+-- the same where bytes before o may lie past n: those at or past n and below m end where the written ones end
+abbrev pub Reach : ℕ → ℕ → ℕ → ℕ → ℕ → Type 0
+Reach n m o l s = (i : ℕ) → n ≤ i → i < m → i < s → i < o + l
+
 pub splice-skip : (o : ℕ) (new : List ℕ) (old i : ℕ) → (o ≤ i → i < o + length new → ⊥) → splice o new old i ≡ old
 splice-skip o new old i none = elim (split o i) [
   | inl q ↦ elim (split (o + length new) i) [
@@ -130,6 +134,16 @@ unfolding span
 cover-child W h o new n m cover j l = λ i u v w.
     let both = cover (j * span W h + i) (omega arith) (omega arith) (digits-lt l w) in
     rw (length-part (span W h) j o new) (inside (span W h) j o (length new) i w (both .0) (both .1))
+
+before : (s j o l r : ℕ) → r < s → j * s + r < o + l → r < o - j * s + partLength s j o l
+unfolding partLength
+before s j o l r p v = omega arith
+
+pub reach-child : (W h o : ℕ) (new : List ℕ) (n m : ℕ) → Reach n m o (length new) (span W (suc h)) → (j : ℕ) → j < W
+    → Reach (n - j * span W h) (m - j * span W h) (o - j * span W h) (length (part (span W h) j o new)) (span W h)
+unfolding span
+reach-child W h o new n m reach j l = λ i u v w.
+    rw (length-part (span W h) j o new) (before (span W h) j o (length new) i w (reach (j * span W h + i) (omega arith) (omega arith) (digits-lt l w)))
 
 -- all of it falls under child j
 pub part-whole : (s j o : ℕ) (new : List ℕ) → j * s ≤ o → o + length new ≤ j * s + s → part s j o new ≡ new

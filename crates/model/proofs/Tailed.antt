@@ -25,7 +25,7 @@ use Rattle.model.proofs.Trees.{blocks-dead, sound-dead, blocks-null, so
 use Rattle.model.proofs.Agree.{agree, byteAt-null, byteAt-past, byteAt-size, agree-byte, agree-none, agree-child, occ-node, sound-root, aligned-none, aligned-full, aligned-zero}
 use Rattle.model.proofs.Splice.{Small, Cover, splice-in, splice-left, splice-right, length-part, getD-part, small-part, inside, cover-child, choose-pos}
 use Rattle.model.proofs.Changed.{Changed, weaken, kept, node}
-use Rattle.model.proofs.Built.{held, used, used-add, length-build, held-joined, page-byte, build-changed}
+use Rattle.model.proofs.Built.{held, used, used-add, length-build-null, held-joined, page-byte, build-null-changed}
 
 -- ---- zeros
 
@@ -63,9 +63,9 @@ tailNeed-dead W (suc h) l = refl
 module _ (W : ℕ) (pos : 0 < W) (b : List ℕ) (fresh : ℕ → ℕ) where
   pub length-tail : (h k n : ℕ) (new : List ℕ) (c : ℕ) → length (tailPages W b fresh h k n new c) ≡ tailNeed W h n (length new)
   unfolding tailPages tailNeed
-  length-tail zero k zero new c = length-build W pos b fresh zero 0 0 0 new c
+  length-tail zero k zero new c = length-build-null W pos b fresh zero 0 0 new c
   length-tail zero k (suc n) new c = refl
-  length-tail (suc h) k zero new c = length-build W pos b fresh (suc h) 0 0 0 new c
+  length-tail (suc h) k zero new c = length-build-null W pos b fresh (suc h) 0 0 new c
   length-tail (suc h) k (suc n) new c = length-joined W _ ∙ sum-cong W _ _ (λ j l.
       length-tail h (link W b k j / W) (suc n - j * span W h) (part (span W h) j (suc n) new) _
       ∙ ap (tailNeed W h (suc n - j * span W h)) (length-part (span W h) j (suc n) new))
@@ -286,7 +286,7 @@ module _ (W : ℕ) (pos : 0 < W) (b b′ : List ℕ) (fresh : ℕ → ℕ) (lim 
       → HookShows W (tailHook W fresh) (used fresh) b b′ top h new c
   unfolding freshPointer
   tail-hook-shows h new c small room g = λ m some cover. rw (mul-div-cancel-left _ pos)
-      (build-changed W pos b fresh b′ lim nonzero top below h 0 0 0 new c m some room small g (agree-none W pos b b′ h 0 0 refl) (omega arith) cover)
+      (build-null-changed W pos b fresh b′ lim nonzero top below h 0 new c m some room small g (λ i u v w. cover i u v w .1))
 
   tail-hooks-show : (h k n : ℕ) (new : List ℕ) (c : ℕ) → Small new → c + tailNeed W h n (length new) ≤ lim → held W fresh b′ (tailPages W b fresh h k n new c) c
       → HooksShow W (tailHook W fresh) (used fresh) b b′ top h n new c

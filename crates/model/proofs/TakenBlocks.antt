@@ -3,9 +3,9 @@
 use mathlib.Core.Path.{_≡_, refl, _∙_, sym, ap}
 use mathlib.Core.Logic.{inl, inr}
 use mathlib.Core.List.{List, [], _∷_}
-use Prim.Native.Nat.{ℕ, zero, suc, _+_, _-_, _*_, _/_, _%_, _<_}
+use Prim.Native.Nat.{ℕ, zero, suc, _+_, _-_, _*_, _/_, _%_, _≤_, _<_}
 use native.Mathlib.Omega.{arith}
-use native.Mathlib.Nat.{zero-add}
+use native.Mathlib.Nat.{zero-add, div-add-mod'}
 use lib.ListN.{length, getD, take, List·getD-eq-default}
 use lib.Seq.{take-all, take-suc}
 use lib.Dec.{T}
@@ -15,7 +15,7 @@ use Rattle.model.specs.Tree.{span, least, cell}
 use Rattle.model.specs.Board.{contents, free, accepted, liveBlocks, blockCount, rootAddress, root, size}
 use Rattle.model.specs.Store.{Store, performed, stores}
 use Rattle.model.specs.Plan.{planEpochs, Plan, pairs, plan}
-use Rattle.model.specs.Fresh.{need}
+use Rattle.model.specs.Fresh.{freshNeed, need}
 use Rattle.model.specs.InPlace.{tailNeed}
 use Rattle.model.specs.Change.{growthTo, emptyTail, tail, descend, shadowInside, shadowWithLength}
 use Rattle.model.specs.Calls.{lowest}
@@ -24,7 +24,8 @@ use Rattle.model.specs.Claims.{FreshRule}
 use Rattle.model.proofs.Cases.{split, is-true}
 use Rattle.model.proofs.Counting.{occ, one-other, occ-append, member-occ}
 use Rattle.model.proofs.Perform.{length-performed}
-use Rattle.model.proofs.Built.{used, length-build}
+use Rattle.model.proofs.Built.{used, length-build, length-build-null}
+use Rattle.model.proofs.Paths.{fresh-quiet}
 use Rattle.model.proofs.Tailed.{length-tail}
 use Rattle.model.proofs.Descent.{descend-on, descend-stop}
 use Rattle.model.proofs.Grown.{length-levels}
@@ -69,14 +70,16 @@ census-after g fit b t c slice =
 
 -- ---- How many a way takes: a block for each level of growth, those that `need` counts on paths to written bytes, and one for a leaf
 
-descend-need : (W : ℕ) → 0 < W → (fresh : ℕ → ℕ) (b : List ℕ) (h k n o : ℕ) (new : List ℕ) (c a : ℕ) → (h′ : ℕ) × (o′ : ℕ) × (length (descend W fresh b h k n o new c a .pages) ≡ need W h′ o′ (length new))
+descend-need : (W : ℕ) → 0 < W → (fresh : ℕ → ℕ) (b : List ℕ) (h k n o : ℕ) (new : List ℕ) (c a : ℕ) → o ≤ n → (h′ : ℕ) × (o′ : ℕ) × (length (descend W fresh b h k n o new c a .pages) ≡ need W h′ o′ (length new))
 unfolding descend
-descend-need W pos fresh b zero k n o new c a = (0, o, length-build W pos b fresh 0 k n o new c)
-descend-need W pos fresh b (suc h) zero n o new c a = (suc h, o, length-build W pos b fresh (suc h) 0 n o new c)
-descend-need W pos fresh b (suc h) (suc k) n o new c a = elim (split (o % span W h + length new) (span W h)) [
-  | inl fits ↦ rw (descend-on W fresh b new c h k n o a fits)
-      (descend-need W pos fresh b h (cell W b (suc k) (o / span W h) / W) (n - o / span W h * span W h) (o % span W h) new c (W * suc k + o / span W h))
-  | inr more ↦ rw (descend-stop W fresh b new c h k n o a more) (suc h, o, length-build W pos b fresh (suc h) (suc k) n o new c)
+descend-need W pos fresh b zero k n o new c a within = (0, o, length-build W pos b fresh 0 k n o new c ∙ fresh-quiet W b 0 k n o (length new) (inr (inr within)))
+descend-need W pos fresh b (suc h) zero n o new c a within = (suc h, o, length-build-null W pos b fresh (suc h) n o new c)
+descend-need W pos fresh b (suc h) (suc k) n o new c a within = elim (split (o % span W h + length new) (span W h)) [
+  | inl fits ↦
+      let at : o / span W h * span W h + o % span W h ≡ o = div-add-mod' o (span W h) in
+      rw (descend-on W fresh b new c h k n o a fits)
+      (descend-need W pos fresh b h (cell W b (suc k) (o / span W h) / W) (n - o / span W h * span W h) (o % span W h) new c (W * suc k + o / span W h) (omega arith))
+  | inr more ↦ rw (descend-stop W fresh b new c h k n o a more) (suc h, o, length-build W pos b fresh (suc h) (suc k) n o new c ∙ fresh-quiet W b (suc h) (suc k) n o (length new) (inr (inr within)))
 ]
 
 module _ (g : Layout) (pos : 0 < g .words) (fresh : ℕ → ℕ) (b : List ℕ) (f : ℕ) where
@@ -85,21 +88,22 @@ module _ (g : Layout) (pos : 0 < g .words) (fresh : ℕ → ℕ) (b : List ℕ) 
   growth-takes-levels h there = length-levels (g .words) fresh (root g b f / g .words) (h - root g b f % g .words) there
 
   module _ (new : List ℕ) (c : ℕ) where
-    pub empty-tail-needs : emptyTail g fresh b f new c .taken ≡ c + need (g .words) (least (g .words) (g .height) (length new)) 0 (length new)
+    pub empty-tail-needs : (o : ℕ) → emptyTail g fresh b f o new c .taken ≡ c + need (g .words) (least (g .words) (g .height) (o + length new)) o (length new)
     unfolding emptyTail plan
-    empty-tail-needs = ap (λ (x : ℕ). c + x) (length-build (g .words) pos b fresh (least (g .words) (g .height) (length new)) 0 0 0 new c)
+    empty-tail-needs o = ap (λ (x : ℕ). c + x) (length-build-null (g .words) pos b fresh (least (g .words) (g .height) (o + length new)) 0 o new c)
 
-    pub tail-needs : (s : ℕ) → tail g fresh b f (suc s) new c .taken ≡ c + tailNeed (g .words) (root g b f % g .words) (suc s) (length new)
+    pub tail-needs : (s o : ℕ) → tail g fresh b f (suc s) o new c .taken ≡ c + tailNeed (g .words) (root g b f % g .words) (suc s) (length new)
     unfolding tail plan
-    tail-needs s = ap (λ (x : ℕ). c + x) (length-tail (g .words) pos b fresh (root g b f % g .words) (root g b f / g .words) (suc s) new c)
+    tail-needs s o = ap (λ (x : ℕ). c + x) (length-tail (g .words) pos b fresh (root g b f % g .words) (root g b f / g .words) (suc s) new c)
 
     -- for the tree under the word that commits
-    pub inside-needs : (o : ℕ) → (h′ : ℕ) × (o′ : ℕ) × (shadowInside g fresh b f o new c .taken ≡ c + need (g .words) h′ o′ (length new))
+    pub inside-needs : (o : ℕ) → o ≤ size g b f → (h′ : ℕ) × (o′ : ℕ) × (shadowInside g fresh b f o new c .taken ≡ c + need (g .words) h′ o′ (length new))
     unfolding shadowInside plan
-    inside-needs o =
-        let d = descend-need (g .words) pos fresh b (root g b f % g .words) (root g b f / g .words) (size g b f) o new c (rootAddress g b f) in
+    inside-needs o within =
+        let d = descend-need (g .words) pos fresh b (root g b f % g .words) (root g b f / g .words) (size g b f) o new c (rootAddress g b f) within in
         (d .0, d .1, ap (λ (x : ℕ). c + x) (d .2))
 
-    pub leaf-needs : (o : ℕ) → shadowWithLength g fresh b f o new c .taken ≡ c + need (g .words) (root g b f % g .words) o (length new) + 1
+    -- where o lies past the size, the path to byte s − 1 is counted too
+    pub leaf-needs : (o : ℕ) → shadowWithLength g fresh b f o new c .taken ≡ c + freshNeed (g .words) b (root g b f % g .words) (root g b f / g .words) (size g b f) o (length new) + 1
     unfolding shadowWithLength plan
     leaf-needs o = ap (λ (x : ℕ). c + x + 1) (length-build (g .words) pos b fresh (root g b f % g .words) (root g b f / g .words) (size g b f) o new c)

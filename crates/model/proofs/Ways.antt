@@ -1,7 +1,7 @@
 -- The ways of planning a write, 3 to 6 of document 01: whichever is chosen, its one step is good.
 use mathlib.Core.Path.{_≡_, refl, sym, ap, _∙_}
 use mathlib.Core.Logic.{inl, inr}
-use mathlib.Core.Bool.{Bool, true, false, not, cond, _||_, false≢true}
+use mathlib.Core.Bool.{Bool, true, false, not, cond, _&&_, _||_, false≢true}
 use mathlib.Core.List.{List, [], _∷_, _++_, append-nil}
 use Prim.Native.Nat.{ℕ, zero, suc, _+_, _-_, _/_, _%_, _≤_, _<_, max}
 use native.Mathlib.Omega.{arith}
@@ -48,10 +48,13 @@ module _ (g : Layout) (fit : Fits g) (b : List ℕ) (f : ℕ) where
   pub length-contents : length (contents g b f) ≡ size g b f
   length-contents = ap (λ (l : List ℕ). length l) contents-are ∙ length-tabulate (size g b f) bytes
 
-  pub spliced-writes : (o : ℕ) (new : List ℕ) → o ≤ size g b f → (m : ℕ) → m ≡ max (size g b f) (o + length new)
-      → spliced g b f o new m ≡ take o (contents g b f) ++ new ++ drop (o + length new) (contents g b f)
+  -- what a write of `new` at o makes of it
+  abbrev pub rewritten : ℕ → List ℕ → List ℕ
+  rewritten o new = take o (contents g b f) ++ replicate (o - length (contents g b f)) 0 ++ new ++ drop (o + length new) (contents g b f)
+
+  pub spliced-writes : (o : ℕ) (new : List ℕ) (m : ℕ) → m ≡ max (size g b f) (o + length new) → spliced g b f o new m ≡ rewritten o new
   unfolding bytes
-  spliced-writes o new l m e = rw (e, contents-are) (spliced-write (size g b f) bytes o new l)
+  spliced-writes o new m e = rw (e, length-contents, contents-are) (spliced-write (size g b f) bytes o new)
 
   -- what a length change to n makes of it
   abbrev pub lengthened : ℕ → List ℕ
@@ -75,10 +78,10 @@ pub record OneStep (g : Layout) (b : List ℕ) (f : ℕ) (fresh : ℕ → ℕ) (
   pub takes : Takes g b fresh c (p .taken) only
 
 module _ (g : Layout) (fit : Fits g) (b : List ℕ) (t : T (accepted g b)) (f : ℕ) (f-lt : f < files g) (o : ℕ) (new : List ℕ) (some : 0 < length new) (small : Small new)
-    (within : o ≤ size g b f) (most : o + length new ≤ greatest g) (reach : 0 < size g b f → o + length new ≤ span (g .words) (root g b f % g .words))
+    (most : o + length new ≤ greatest g) (reach : 0 < size g b f → o + length new ≤ span (g .words) (root g b f % g .words))
     (fresh : ℕ → ℕ) (c lim : ℕ) (supply : Supply g b fresh c lim) where
   abbrev wanted : List ℕ
-  wanted = take o (contents g b f) ++ new ++ drop (o + length new) (contents g b f)
+  wanted = rewritten g fit b f o new
 
   abbrev Good : Plan → Type 0
   Good p = p .taken ≤ lim → OneStep g b f fresh c wanted p
@@ -86,7 +89,7 @@ module _ (g : Layout) (fit : Fits g) (b : List ℕ) (t : T (accepted g b)) (f : 
   -- one that leaves m bytes
   one-good : (s : Step) (m c′ : ℕ) → m ≡ max (size g b f) (o + length new) → GoodStep g b f s (spliced g b f o new m) → Takes g b fresh c c′ s → OneStep g b f fresh c wanted (plan (s ∷ []) c′)
   unfolding plan
-  one-good s m c′ e y k = record { only = s; steps-are = refl; good = rw (spliced-writes g fit b f o new within m e) at y; takes = k }
+  one-good s m c′ e y k = record { only = s; steps-are = refl; good = rw (spliced-writes g fit b f o new m e) at y; takes = k }
 
   -- a word of the file's inode lies in a live block
   inode-live-at : (a : ℕ) → a / g .words ≡ leaf g b (f / g .inodes) → 0 < occ (a / g .words) (liveBlocks g b)
@@ -118,7 +121,7 @@ module _ (g : Layout) (fit : Fits g) (b : List ℕ) (t : T (accepted g b)) (f : 
       })
 
   -- 4
-  tail-empty : (s : ℕ) → s ≡ 0 → tail g fresh b f s new c ≡ emptyTail g fresh b f new c
+  tail-empty : (s : ℕ) → s ≡ 0 → tail g fresh b f s o new c ≡ emptyTail g fresh b f o new c
   unfolding tail
   tail-empty zero e = refl
   tail-empty (suc s) e = absurd (omega arith)
@@ -130,27 +133,26 @@ module _ (g : Layout) (fit : Fits g) (b : List ℕ) (t : T (accepted g b)) (f : 
       let others : List Store = inPlace (g .words) b (λ h l i. freshPointer (g .words) fresh h 0 l i) (root g b f % g .words) (root g b f / g .words) s new c (rootAddress g b f) in
       plan (step (stored (g .words) fresh ps c ++ others) (sizeAddress g b f) (s + length new) ∷ []) (c + length ps)
 
-  tail-live : (s : ℕ) → 0 < s → tail g fresh b f s new c ≡ tailOf s
+  tail-live : (s : ℕ) → 0 < s → tail g fresh b f s o new c ≡ tailOf s
   unfolding tail
   tail-live zero l = absurd (omega arith)
   tail-live (suc s) l = refl
 
-  tail-parts : isTail g b f o ≡ true → (o ≡ size g b f) × (0 < size g b f → T (atBlock (walkLive (g .words) b (root g b f % g .words) (root g b f / g .words) (size g b f))))
+  tail-parts : isTail g b f o ≡ true → 0 < size g b f → (o ≡ size g b f) × T (atBlock (walkLive (g .words) b (root g b f % g .words) (root g b f / g .words) (size g b f)))
   unfolding isTail live
-  tail-parts e =
+  tail-parts e l =
       let path : Bool = atBlock (walkLive (g .words) b (root g b f % g .words) (root g b f / g .words) (size g b f)) in
-      let first : eqb o (size g b f) ≡ true = true-left (eqb o (size g b f)) (not (live (size g b f)) || path) e in
-      (eqb-true o (size g b f) first, λ l. passes (size g b f) path l (true-right (eqb o (size g b f)) (not (live (size g b f)) || path) e))
+      let both : (eqb o (size g b f) && path) ≡ true = passes (size g b f) (eqb o (size g b f) && path) l e in
+      (eqb-true o (size g b f) (true-left (eqb o (size g b f)) path both), rw (true-right (eqb o (size g b f)) path both) tt)
     where
-      passes : (s : ℕ) (u : Bool) → 0 < s → (not (live s) || u) ≡ true → T u
+      passes : (s : ℕ) (u : Bool) → 0 < s → (not (live s) || u) ≡ true → u ≡ true
       passes zero u l z = absurd (omega arith)
-      passes (suc s) true l z = tt
-      passes (suc s) false l z = absurd (false≢true z)
+      passes (suc s) u l z = z
 
-  empty-tail-way : size g b f ≡ 0 → o ≡ size g b f → Good (emptyTail g fresh b f new c)
+  empty-tail-way : size g b f ≡ 0 → Good (emptyTail g fresh b f o new c)
   unfolding emptyTail plan step store All
-  empty-tail-way z e room = one-good _ (length new) _ (omega arith)
-      (rw e (empty-tail-good g fit b t f f-lt new some small fresh c lim supply z (omega arith) room))
+  empty-tail-way z room = one-good _ (o + length new) _ (omega arith)
+      (empty-tail-good g fit b t f f-lt new some small fresh c lim supply z o most room)
       (record { pages = _; others = _; is = refl; count = refl; others-live = (inode-live-at (rootAddress g b f) (root-block g fit b f), tt); commit-live = inode-live-at (sizeAddress g b f) (size-block g fit b f) })
 
   live-tail-way : 0 < size g b f → o ≡ size g b f → T (atBlock (walkLive (g .words) b (root g b f % g .words) (root g b f / g .words) (size g b f))) → Good (tailOf (size g b f))
@@ -166,10 +168,10 @@ module _ (g : Layout) (fit : Fits g) (b : List ℕ) (t : T (accepted g b)) (f : 
         commit-live = inode-live-at (sizeAddress g b f) (size-block g fit b f);
       })
 
-  tail-way : isTail g b f o ≡ true → Good (tail g fresh b f (size g b f) new c)
+  tail-way : isTail g b f o ≡ true → Good (tail g fresh b f (size g b f) o new c)
   tail-way e = elim (split (size g b f) 0) [
-    | inl z ↦ let z′ : size g b f ≡ 0 = omega arith in rw (tail-empty (size g b f) z′) (empty-tail-way z′ (tail-parts e .0))
-    | inr l ↦ rw (tail-live (size g b f) l) (live-tail-way l (tail-parts e .0) (tail-parts e .1 l))
+    | inl z ↦ let z′ : size g b f ≡ 0 = omega arith in rw (tail-empty (size g b f) z′) (empty-tail-way z′)
+    | inr l ↦ rw (tail-live (size g b f) l) (live-tail-way l (tail-parts e l .0) (tail-parts e l .1))
   ]
 
   -- 5
@@ -187,13 +189,13 @@ module _ (g : Layout) (fit : Fits g) (b : List ℕ) (t : T (accepted g b)) (f : 
   -- 6
   leaf-way : 0 < size g b f → size g b f < o + length new → Good (shadowWithLength g fresh b f o new c)
   unfolding shadowWithLength plan
-  leaf-way l m room = one-good _ (max (size g b f) (o + length new)) _ refl (leaf-good g fit b t f f-lt o new some small l within m (reach l) most fresh c lim supply room) (leaf-takes g fresh b f o new c fit f-lt)
+  leaf-way l m room = one-good _ (max (size g b f) (o + length new)) _ refl (leaf-good g fit b t f f-lt o new some small l m (reach l) most fresh c lim supply room) (leaf-takes g fresh b f o new c fit f-lt)
 
   -- whichever it is
-  not-tail : isTail g b f o ≡ false → size g b f < o + length new → 0 < size g b f
+  not-tail : isTail g b f o ≡ false → 0 < size g b f
   unfolding isTail live
-  not-tail e more = elim (split (size g b f) 0) [
-    | inl z ↦ let z′ : size g b f ≡ 0 = omega arith in let o′ : o ≡ 0 = omega arith in absurd (false≢true (sym (rw (z′, o′) at e)))
+  not-tail e = elim (split (size g b f) 0) [
+    | inl z ↦ let z′ : size g b f ≡ 0 = omega arith in absurd (false≢true (sym (rw z′ at e)))
     | inr l ↦ l
   ]
 
@@ -203,11 +205,11 @@ module _ (g : Layout) (fit : Fits g) (b : List ℕ) (t : T (accepted g b)) (f : 
   way-good Hole e = by (isTail g b f o) refl
     where
       by : (u : Bool) → isTail g b f o ≡ u
-          → Good (cond u (tail g fresh b f (size g b f) new c) (cond (leb (o + length new) (size g b f)) (shadowInside g fresh b f o new c) (shadowWithLength g fresh b f o new c)))
+          → Good (cond u (tail g fresh b f (size g b f) o new c) (cond (leb (o + length new) (size g b f)) (shadowInside g fresh b f o new c) (shadowWithLength g fresh b f o new c)))
       by true z = tail-way z
       by false z = elim (split (o + length new) (size g b f)) [
         | inl l ↦ rw (le-leb (o + length new) (size g b f) l) (inside-way l)
-        | inr m ↦ rw (lt-leb (o + length new) (size g b f) m) (leaf-way (not-tail z m) m)
+        | inr m ↦ rw (lt-leb (o + length new) (size g b f) m) (leaf-way (not-tail z) m)
       ]
 
 -- each takes blocks from number c on
@@ -216,11 +218,11 @@ unfolding chosenWay singleWord emptyTail tail shadowInside shadowWithLength plan
 taken-from g fresh b f (Block K) o new c = omega arith
 taken-from g fresh b f Hole o new c = by (isTail g b f o) (leb (o + length new) (size g b f))
   where
-    tails : (s : ℕ) → c ≤ tail g fresh b f s new c .taken
+    tails : (s : ℕ) → c ≤ tail g fresh b f s o new c .taken
     tails zero = omega arith
     tails (suc s) = omega arith
 
-    by : (u v : Bool) → c ≤ cond u (tail g fresh b f (size g b f) new c) (cond v (shadowInside g fresh b f o new c) (shadowWithLength g fresh b f o new c)) .taken
+    by : (u v : Bool) → c ≤ cond u (tail g fresh b f (size g b f) o new c) (cond v (shadowInside g fresh b f o new c) (shadowWithLength g fresh b f o new c)) .taken
     by true v = tails (size g b f)
     by false true = omega arith
     by false false = omega arith

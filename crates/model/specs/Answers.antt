@@ -4,17 +4,16 @@ use mathlib.Core.List.{List, [], _∷_}
 use Prim.Native.Nat.{ℕ}
 use lib.IntN.{ℤ, pos, negℤ}
 use Rattle.model.specs.declared.Fault.{Fault}
-use Rattle.model.specs.declared.Fault.the-variants.{WordCount, Trailer, Damaged, FileNumber, Offset, End, FreeBlocks, PlanLength, PairCount, Address}
+use Rattle.model.specs.declared.Fault.the-variants.{WordCount, Trailer, Damaged, FileNumber, End, FreeBlocks, PlanLength, PairCount, Address}
 use Rattle.model.specs.declared.Answer.{Answer}
 use Rattle.model.specs.declared.Answer.the-variants.{Done, Refused}
 
--- the number of each refusal
+-- the number of each refusal; *5 never occurs*
 unfoldable pub number : Fault → ℕ
 number WordCount = 1
 number Trailer = 2
 number Damaged = 3
 number FileNumber = 4
-number Offset = 5
 number End = 6
 number FreeBlocks = 7
 number PlanLength = 8

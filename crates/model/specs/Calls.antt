@@ -5,7 +5,7 @@ use mathlib.Core.List.{List, [], _∷_, _++_}
 use Prim.Native.Nat.{ℕ, _+_, _-_, _*_, min}
 use lib.ListN.{length, getD, take, drop}
 use lib.Dec.{leb, ltb}
-use Rattle.model.specs.declared.Fault.the-variants.{WordCount, Trailer, Damaged, FileNumber, Offset, End, FreeBlocks, PlanLength, PairCount, Address}
+use Rattle.model.specs.declared.Fault.the-variants.{WordCount, Trailer, Damaged, FileNumber, End, FreeBlocks, PlanLength, PairCount, Address}
 use Rattle.model.specs.declared.Answer.{Answer}
 use Rattle.model.specs.Lists.{all}
 use Rattle.model.specs.Layout.{Layout, files}
@@ -69,10 +69,10 @@ module _ (g : Layout) (b : List ℕ) where
   unfoldable pub lowest : ℕ → ℕ
   lowest i = getD (free g b) i 0
 
-  -- *Write.* *5: o > s. 6: e above 32,768. 7: fewer free blocks than the plan's fresh ones, growth included*
+  -- *Write.* *6: e above 32,768. 7: fewer free blocks than the plan's fresh ones, growth included.* *5 never occurs*
   unfoldable pub writeFaults : ℕ → ℕ → List ℕ → Plan → Faults
   writeFaults f o new p = fileFaults g b f
-      ++ ((Offset, ltb (size g b f) o) ∷ (End, ltb (greatest g) (o + length new)) ∷ (FreeBlocks, ltb (length (free g b)) (p .taken)) ∷ [])
+      ++ ((End, ltb (greatest g) (o + length new)) ∷ (FreeBlocks, ltb (length (free g b)) (p .taken)) ∷ [])
 
   -- the plan goes to the lent slice
   unfoldable pub write : ℕ → ℕ → List ℕ → List ℕ → Planned

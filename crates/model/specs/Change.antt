@@ -70,23 +70,23 @@ module _ (g : Layout) (b : List ℕ) (f : ℕ) where
 
   -- ---- 4. Tail
 
-  -- *If o = s and no live pointer on the path to byte o is null*, the root among them; with s = 0 there is none
+  -- *With size 0 it goes the tail way*, wherever the bytes begin; else *if o = s and no live pointer on the path to byte o is null*, the root among them
   unfoldable pub isTail : ℕ → Bool
-  isTail o = eqb o (size g b f) && (not (live (size g b f)) || atBlock (walkLive (g .words) b (rootHeight g b f) (rootBlock g b f) (size g b f)))
+  isTail o = not (live (size g b f)) || eqb o (size g b f) && atBlock (walkLive (g .words) b (rootHeight g b f) (rootBlock g b f) (size g b f))
 
 module _ (g : Layout) (fresh : ℕ → ℕ) (b : List ℕ) (f : ℕ) where
-  -- *With s = 0 the old root is ignored and the least sufficient height is used*
-  unfoldable pub emptyTail : List ℕ → ℕ → Plan
-  emptyTail new c =
-      let h : ℕ = least (g .words) (g .height) (length new) in
-      let ps : List Page = build (g .words) fresh b h 0 0 0 new c in
-      let hook : Store = store (rootAddress g b f) (freshPointer (g .words) fresh h 0 (length new) c + h) in
-      plan (step (stored (g .words) fresh ps c ++ (hook ∷ [])) (sizeAddress g b f) (length new) ∷ []) (c + length ps)
+  -- *With s = 0 the old root is ignored and the least sufficient height is used*, *with holes left null*
+  unfoldable pub emptyTail : ℕ → List ℕ → ℕ → Plan
+  emptyTail o new c =
+      let h : ℕ = least (g .words) (g .height) (o + length new) in
+      let ps : List Page = build (g .words) fresh b h 0 0 o new c in
+      let hook : Store = store (rootAddress g b f) (freshPointer (g .words) fresh h o (length new) c + h) in
+      plan (step (stored (g .words) fresh ps c ++ (hook ∷ [])) (sizeAddress g b f) (o + length new) ∷ []) (c + length ps)
 
-  -- *one epoch of hidden stores, then the size alone*
-  unfoldable pub tail : ℕ → List ℕ → ℕ → Plan
-  tail zero new c = emptyTail new c
-  tail (suc s) new c =
+  -- *one epoch of hidden stores, then the size alone*. With s > 0, o is s
+  unfoldable pub tail : ℕ → ℕ → List ℕ → ℕ → Plan
+  tail zero o new c = emptyTail o new c
+  tail (suc s) o new c =
       let ps : List Page = tailPages (g .words) b fresh (rootHeight g b f) (rootBlock g b f) (suc s) new c in
       let others : List Store = inPlace (g .words) b (λ h l i. freshPointer (g .words) fresh h 0 l i) (rootHeight g b f) (rootBlock g b f) (suc s) new c (rootAddress g b f) in
       plan (step (stored (g .words) fresh ps c ++ others) (sizeAddress g b f) (suc s + length new) ∷ []) (c + length ps)
@@ -125,7 +125,7 @@ module _ (g : Layout) (fresh : ℕ → ℕ) (b : List ℕ) (f : ℕ) where
   unfoldable pub leafPage : ℕ → ℕ → Page
   leafPage r s j = cond (eqb j (2 * (f % g .inodes))) r (cond (eqb j (2 * (f % g .inodes) + 1)) s (cell (g .words) b (leaf g b (f / g .inodes)) j))
 
-  -- *fresh blocks on all paths from the root to written bytes*, the leaf last; *the commit is the inode pointer*
+  -- *fresh blocks on all paths from the root to written bytes*, and to byte s − 1 where o lies past s, the leaf last; *the commit is the inode pointer*
   unfoldable pub shadowWithLength : ℕ → List ℕ → ℕ → Plan
   shadowWithLength o new c =
       let ps : List Page = build (g .words) fresh b (rootHeight g b f) (rootBlock g b f) (size g b f) o new c in
@@ -138,7 +138,7 @@ module _ (g : Layout) (fresh : ℕ → ℕ) (b : List ℕ) (f : ℕ) where
   unfoldable pub chosenWay : WalkEnd → ℕ → List ℕ → ℕ → Plan
   chosenWay (Block k) o new c = singleWord g b f k o new c
   chosenWay Hole o new c =
-      cond (isTail g b f o) (tail g fresh b f (size g b f) new c)
+      cond (isTail g b f o) (tail g fresh b f (size g b f) o new c)
       (cond (leb (o + length new) (size g b f)) (shadowInside o new c) (shadowWithLength o new c))
 
 module _ (g : Layout) (fresh : ℕ → ℕ) (b : List ℕ) (f : ℕ) where

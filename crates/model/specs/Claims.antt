@@ -53,13 +53,13 @@ FreshRule = (g : Layout) → Fits g → (b : List ℕ) → T (accepted g b) → 
     → let ss : List Store = planOf (called g b c slice) in
     0 < length ss → (k : ℕ) → T (member k (free g b)) → T (member k (map (λ s. s .at / g .words) (stores ss))) ↔ T (member k (take (planFor g b c .taken) (free g b)))
 
--- *A fresh file block holds what is visible: bytes and pointers at or past the new size are 0*. Said of the two kinds of page that a fresh tree is
--- made of, in a tree of which n bytes lay below the old size
+-- *A fresh file block holds what is visible*: bytes at or past the old size that are not written are 0, and *a pointer whose span starts at s or later
+-- and has no written byte beneath it is null*. Said of the two kinds of page that a fresh tree is made of, in a tree of which n bytes lay below s
 abbrev pub FreshBlockRule : Type 0
 FreshBlockRule = (W : ℕ) (b : List ℕ) (k n o : ℕ) (new : Bytes)
     → let l : ℕ = length (new .values) in
-    ((i : ℕ) → n ≤ i → o + l ≤ i → byteOf (dataPage W b k n o (new .values) (i / 8)) (i % 8) ≡ 0)
-    × ((fresh : ℕ → ℕ) (h c j : ℕ) → n ≤ j * span W h → o + l ≤ j * span W h → pointerPage W fresh b h k n o l c j ≡ 0)
+    ((i : ℕ) → n ≤ i → (o ≤ i → o + l ≤ i) → byteOf (dataPage W b k n o (new .values) (i / 8)) (i % 8) ≡ 0)
+    × ((fresh : ℕ → ℕ) (h c j : ℕ) → n ≤ j * span W h → (o < j * span W h + span W h → o + l ≤ j * span W h) → pointerPage W fresh b h k n o l c j ≡ 0)
 
 -- the live blocks, the free blocks, block 0 and the trailer make B
 abbrev pub CensusRule : Type 0

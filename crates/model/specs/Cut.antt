@@ -39,10 +39,14 @@ planFor g b (lengthTo f n) = lengthPlan g b f n
 unfoldable pub planOf : Planned → List Store
 planOf p = take (counted (p .answer)) (paired (p .slice))
 
--- the bytes as a plain array of bytes would be altered: *the caller's at o to e − 1 and the old ones elsewhere; the old ones below s and 0
--- from s on*
+-- the bytes with `new` at o: *the caller's at o to e − 1 and the old ones elsewhere*, *bytes between read 0*. *L = 0 leaves all as before*
+unfoldable pub overwritten : ℕ → List ℕ → List ℕ → List ℕ
+overwritten o [] before = before
+overwritten o (x ∷ new) before = take o before ++ replicate (o - length before) 0 ++ (x ∷ new) ++ drop (o + suc (length new)) before
+
+-- the bytes as a plain array of bytes would be altered; a length change to n leaves *the old ones below s and 0 from s on*
 unfoldable pub altered : Change → List ℕ → List ℕ
-altered (writing f o new) before = take o before ++ new .values ++ drop (o + length (new .values)) before
+altered (writing f o new) before = overwritten o (new .values) before
 altered (lengthTo f n) before = take n before ++ replicate (n - length before) 0
 
 -- *After comes from before, the call's arguments and whether it is refused, never from the plan's stores. A refusal leaves all as before*

@@ -10,8 +10,6 @@ pub enum Fault {
     Damaged,
     // 4: the file number
     FileNumber,
-    // 5: a write's offset past the size
-    Offset,
     // 6: an end past the greatest size
     End,
     // 7: too few free blocks

@@ -86,11 +86,11 @@ unfolding chosenWay singleWord emptyTail tail shadowInside shadowWithLength plan
 way-some g fresh b f (Block k) o new c = omega arith
 way-some g fresh b f Hole o new c = by (isTail g b f o) (leb (o + length new) (size g b f))
   where
-    tails : (s : ℕ) → 0 < length (tail g fresh b f s new c .steps)
+    tails : (s : ℕ) → 0 < length (tail g fresh b f s o new c .steps)
     tails zero = omega arith
     tails (suc s) = omega arith
 
-    by : (u v : Bool) → 0 < length (cond u (tail g fresh b f (size g b f) new c) (cond v (shadowInside g fresh b f o new c) (shadowWithLength g fresh b f o new c)) .steps)
+    by : (u v : Bool) → 0 < length (cond u (tail g fresh b f (size g b f) o new c) (cond v (shadowInside g fresh b f o new c) (shadowWithLength g fresh b f o new c)) .steps)
     by true v = tails (size g b f)
     by false true = omega arith
     by false false = omega arith
@@ -182,7 +182,6 @@ module _ {b : List ℕ} {f o : ℕ} {new table : List ℕ} (g : Growable b f o n
     blocks = asked .blocks;
     file = asked .of .file;
     some = asked .some;
-    within = rw (left-grown .sizes) (asked .within);
     end = asked .end;
     address = left-grown .address;
     pointers = left-grown .inode;

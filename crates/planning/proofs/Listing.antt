@@ -13,7 +13,7 @@ use Rattle.model.specs.declared.Answer.{Answer}
 use Rattle.model.specs.declared.Answer.the-variants.{Done}
 use Rattle.model.specs.Lists.{consIf, pickFrom}
 use Rattle.model.specs.Layout.{house}
-use Rattle.model.specs.Board.{blockCount, size, free}
+use Rattle.model.specs.Board.{blockCount, free}
 use Rattle.model.specs.Calls.{lowest}
 use Rattle.model.proofs.Cases.{split}
 use Rattle.model.proofs.Tailed.{Zeros, zeros-replicate}
@@ -103,8 +103,8 @@ module _ {b m : List ℕ} {r : Answer} {v top : ℕ} (s : Surveyed b r m) (z : r
       | inr l ↦ omega (arith, free-at house b i l .1, few)
     ]
 
-    pub stocked : {f o : ℕ} {new : List ℕ} → File b f → o ≤ size house b f → 0 < length new → o + length new ≤ 32768 → Stocked b f o new table count
-    stocked file within some end = record {
-      asked = record { of = file; within = within; some = some; end = end; blocks = record { small = λ i. rw (in-order i) (small i) }; lists = in-order };
+    pub stocked : {f o : ℕ} {new : List ℕ} → File b f → 0 < length new → o + length new ≤ 32768 → Stocked b f o new table count
+    stocked file some end = record {
+      asked = record { of = file; some = some; end = end; blocks = record { small = λ i. rw (in-order i) (small i) }; lists = in-order };
       all = k .count ∙ ap length all-listed;
     }

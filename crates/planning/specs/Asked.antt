@@ -40,7 +40,6 @@ grownPlan fresh b f o new =
 -- A write of at least one byte that no refusal up to 6 turns away, and the table of free blocks
 pub record Asked (b : List ℕ) (f o : ℕ) (new table : List ℕ) : Type 0 where
   pub of : File b f
-  pub within : o ≤ size house b f
   pub some : 0 < length new
   pub end : o + length new ≤ 32768
   pub blocks : Blocks table

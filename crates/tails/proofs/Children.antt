@@ -15,6 +15,8 @@ use Rattle.model.proofs.Cases.{joined-none, length-joined}
 use Rattle.model.proofs.Sums.{sum-cong, sum-next}
 use Rattle.model.proofs.Agree.{link-cell}
 use Rattle.model.proofs.Splice.{length-part}
+use Rattle.model.proofs.Paths.{untouched-null}
+use Rattle.model.proofs.Built.{build-none}
 use Rattle.model.proofs.Tailed.{tailNeed-dead, length-tail}
 use Rattle.plans.specs.Laying.{Laid}
 use Rattle.plans.proofs.Laying as Laying
@@ -77,12 +79,10 @@ module _ (b free : List ℕ) where
 
   -- no bytes, no pages
   empty-pages : (h k n : ℕ) (new : List ℕ) (c : ℕ) → length new ≡ 0 → tailPages 8 b (taking free) h k n new c ≡ []
-  unfolding tailPages build
-  empty-pages zero k zero [] c e = refl
-  empty-pages zero k zero (x ∷ new) c e = absurd (omega arith)
+  unfolding tailPages
+  empty-pages zero k zero new c e = build-none 8 (omega arith) b (taking free) zero 0 0 0 new c (untouched-null 8 zero 0 0 0 (length new) e refl)
   empty-pages zero k (suc n) new c e = refl
-  empty-pages (suc h) k zero [] c e = refl
-  empty-pages (suc h) k zero (x ∷ new) c e = absurd (omega arith)
+  empty-pages (suc h) k zero new c e = build-none 8 (omega arith) b (taking free) (suc h) 0 0 0 new c (untouched-null 8 (suc h) 0 0 0 (length new) e refl)
   empty-pages (suc h) k (suc n) new c e = joined-none 8 _ (λ j l. empty-pages h (link 8 b k j / 8) (suc n - j * span 8 h) (part (span 8 h) j (suc n) new)
       (c + tailBefore 8 h (suc n) (length new) j) (part-none (span 8 h) j (suc n) new e))
 

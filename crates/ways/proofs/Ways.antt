@@ -15,16 +15,17 @@ use Rattle.model.specs.Tree.{live, span, least}
 use Rattle.model.specs.Board.{trailer, inodeBlock, leaf, rootAddress, sizeAddress, root, size}
 use Rattle.model.specs.Store.{Store, store, laid}
 use Rattle.model.specs.Plan.{Plan, step, plan, pairs}
-use Rattle.model.specs.Fresh.{Page, need, stored, freshPointer, build}
+use Rattle.model.specs.Fresh.{Page, freshNeed, stored, freshPointer, build}
 use Rattle.model.specs.InPlace.{atBlock, walkLive, tailNeed, tailPages, inPlace}
 use Rattle.model.specs.Change.{isTail, emptyTail, tail, shadowInside, leafPage, shadowWithLength, chosenWay}
 use Rattle.model.proofs.Perform.{address-block, address-place}
-use Rattle.model.proofs.Built.{length-build, need-pos}
+use Rattle.model.proofs.Paths.{touched-new, fresh-pos}
+use Rattle.model.proofs.Built.{length-build, length-build-null}
 use Rattle.model.proofs.Tailed.{length-tail}
 use Rattle.plans.specs.Laying.{closing, Laid}
 use Rattle.plans.proofs.Laying as Laying
 use Rattle.building.specs.Taking.{taking, Blocks, Took}
-use Rattle.building.proofs.Room.{most-small, need-most}
+use Rattle.building.proofs.Room.{most-small, fresh-most}
 use Rattle.building.proofs.Taken as Taken
 use Rattle.growing.specs.declared.Count.{Count}
 use Rattle.growing.specs.Planned.{PlanLaid, AddressOf}
@@ -64,9 +65,9 @@ spanning ready live i = record { low = rw (i .root) (ready .height live); spans 
 -- ---- Fresh blocks
 
 -- what `build` asks
-pub may-build : {b c new free : List ℕ} {f o base t : ℕ} (h o′ : ℕ) → Ready b c f o new free base t → h ≤ 3
-    → (h < 8) × Blocks free × (base + 8 * (t + need 8 h o′ (length new)) ≤ 2 ^ 32)
-may-build {new = new} h o′ ready l = (omega arith, ready .blocks, omega (arith, need-most h o′ (length new), most-small h l, ready .place))
+pub may-build : {b c new free : List ℕ} {f o base t : ℕ} (h k n o′ : ℕ) → Ready b c f o new free base t → h ≤ 3
+    → (h < 8) × Blocks free × (base + 8 * (t + freshNeed 8 c h k n o′ (length new)) ≤ 2 ^ 32)
+may-build {c = c} {new} h k n o′ ready l = (omega arith, ready .blocks, omega (arith, fresh-most c h k n o′ (length new), most-small h l, ready .place))
 
 -- a tree takes at least one block, and so few that the place after their pairs is small
 pub record Some (base t t′ : ℕ) : Type 0 where
@@ -78,8 +79,8 @@ pub some-built : {b c new free plan plan′ : List ℕ} {f o base t t′ : ℕ} 
 some-built {c = c} {new} {free} {t = t} h k n o′ ready l took =
     let e = length-build 8 (omega arith) c (taking free) h k n o′ new t in
     record {
-      low = omega (arith, took .next, e, need-pos 8 (omega arith) c (taking free) h o′ (length new) (ready .some));
-      place = omega (arith, took .next, e, need-most h o′ (length new), most-small h l, ready .place);
+      low = omega (arith, took .next, e, fresh-pos 8 c h k n o′ (length new) (touched-new 8 h k n o′ (length new) (ready .some)));
+      place = omega (arith, took .next, e, fresh-most c h k n o′ (length new), most-small h l, ready .place);
     }
 
 -- the same plan, written another way
@@ -88,17 +89,17 @@ same-plan e l = rw (← e) l
 
 -- ---- Tail, in an empty file
 
-pub empty-laid : {b c free new plan plan₁ plan₂ plan₃ : List ℕ} {base f a h t t′ top q : ℕ}
-    → Ready b c f 0 new free base t → AddressOf b f a → h ≡ least 8 3 (length new)
-    → Took free plan base t (build 8 (taking free) c h 0 0 0 new t) plan₁ t′ → top ≡ getD free (t′ - 1) 0
+pub empty-laid : {b c free new plan plan₁ plan₂ plan₃ : List ℕ} {base f o a h t t′ top q : ℕ}
+    → Ready b c f o new free base t → AddressOf b f a → h ≡ least 8 3 (o + length new)
+    → Took free plan base t (build 8 (taking free) c h 0 0 o new t) plan₁ t′ → top ≡ getD free (t′ - 1) 0
     → plan₂ ≡ laid plan₁ (base + 8 * t′) (store a (8 * top + h) ∷ [])
-    → Laid plan₂ (base + 8 * t′ + 1) (closing (base + 8 * t′ + 1 - (base + 8 * t)) (store (a + 1) (length new))) plan₃ q
-    → PlanLaid plan (base + 8 * t) (emptyTail house (taking free) c f new t) plan₃ (record { pairs = q; taken = t′ })
+    → Laid plan₂ (base + 8 * t′ + 1) (closing (base + 8 * t′ + 1 - (base + 8 * t)) (store (a + 1) (o + length new))) plan₃ q
+    → PlanLaid plan (base + 8 * t) (emptyTail house (taking free) c f o new t) plan₃ (record { pairs = q; taken = t′ })
 unfolding emptyTail sizeAddress freshPointer taking
-empty-laid {c = c} {free} {new} {a = a} {h} {t} {t′} ready at eh took et e l =
-    let count = length-build 8 (omega arith) c (taking free) h 0 0 0 new t in
+empty-laid {c = c} {free} {new} {o = o} {a} {h} {t} {t′} ready at eh took et e l =
+    let count = length-build-null 8 (omega arith) c (taking free) h 0 o new t in
     let hidden = Laying.more (Taken.laid-pages took) (Laying.one e) in
-    rw (ready .address, ← at .is, ← eh, ← count, ← took .next, ← et) (one-step (a + 1) (length new) t′ hidden l refl)
+    rw (ready .address, ← at .is, ← eh, ← count, ← took .next, ← et) (one-step (a + 1) (o + length new) t′ hidden l refl)
 
 -- ---- Tail, in another file
 
@@ -126,22 +127,22 @@ pub store-place : {b c new free plan plan′ : List ℕ} {f o base t p q : ℕ} 
 store-place {c = c} {new} {free} {t = t} h k n a ready l place others =
     omega (arith, others .next, place-most c (hooks free) h k n new t a, most-small h l)
 
-tail-live : (fresh : ℕ → ℕ) (c : List ℕ) (f s : ℕ) (new : List ℕ) (t : ℕ) → 0 < s →
+tail-live : (fresh : ℕ → ℕ) (c : List ℕ) (f s o : ℕ) (new : List ℕ) (t : ℕ) → 0 < s →
     let ps : List Page = tailPages 8 c fresh (root house c f % 8) (root house c f / 8) s new t in
     let others : List Store = inPlace 8 c (λ h l i. freshPointer 8 fresh h 0 l i) (root house c f % 8) (root house c f / 8) s new t (rootAddress house c f) in
-    tail house fresh c f s new t ≡ plan (step (stored 8 fresh ps t ++ others) (sizeAddress house c f) (s + length new) ∷ []) (t + length ps)
+    tail house fresh c f s o new t ≡ plan (step (stored 8 fresh ps t ++ others) (sizeAddress house c f) (s + length new) ∷ []) (t + length ps)
 unfolding tail
-tail-live fresh c f zero new t l = absurd (omega arith)
-tail-live fresh c f (suc s) new t l = refl
+tail-live fresh c f zero o new t l = absurd (omega arith)
+tail-live fresh c f (suc s) o new t l = refl
 
 pub tail-laid : {b c free new plan plan₁ plan₂ plan₃ : List ℕ} {base f o a r s t t′ p q : ℕ} → Ready b c f o new free base t → 0 < size house c f → Inode c f a r s
     → Took free plan base t (tailPages 8 c (taking free) (r % 8) (r / 8) s new t) plan₁ t′
     → Laid plan₁ (base + 8 * t′) (inPlace 8 c (hooks free) (r % 8) (r / 8) s new t a) plan₂ p
     → Laid plan₂ p (closing (p - (base + 8 * t)) (store (a + 1) (s + length new))) plan₃ q
-    → PlanLaid plan (base + 8 * t) (tail house (taking free) c f (size house c f) new t) plan₃ (record { pairs = q; taken = t′ })
+    → PlanLaid plan (base + 8 * t) (tail house (taking free) c f (size house c f) (size house c f) new t) plan₃ (record { pairs = q; taken = t′ })
 unfolding hooks sizeAddress
 tail-laid {c = c} {free} {new} {f = f} {a = a} {s = s} {t} {t′} ready live i took others l =
-    rw (tail-live (taking free) c f (size house c f) new t live, ← i .address, ← i .root, ← i .size, ← took .next)
+    rw (tail-live (taking free) c f (size house c f) (size house c f) new t live, ← i .address, ← i .root, ← i .size, ← took .next)
     (one-step (a + 1) (s + length new) t′ (Laying.more (Taken.laid-pages took) others) l refl)
 
 -- ---- Shadow inside the file
@@ -186,28 +187,29 @@ live-some (suc s) some = refl
 module _ {b c new free : List ℕ} {f o base t a r s : ℕ} (ready : Ready b c f o new free base t) (i : Inode c f a r s) where
   -- by the root and the size as they are read
   chosen : chosenWay house (taking free) c f Hole o new t
-      ≡ cond (eqb o s && (not (live s) || atBlock (walkLive 8 c (r % 8) (r / 8) s))) (tail house (taking free) c f s new t)
+      ≡ cond (not (live s) || eqb o s && atBlock (walkLive 8 c (r % 8) (r / 8) s)) (tail house (taking free) c f s o new t)
       (cond (leb (o + length new) s) (shadowInside house (taking free) c f o new t) (shadowWithLength house (taking free) c f o new t))
   unfolding chosenWay isTail
   chosen = rw (← i .root, ← i .size)
 
-  pub chosen-empty : o ≡ s → s ≡ 0 → emptyTail house (taking free) c f new t ≡ chosenWay house (taking free) c f Hole o new t
+  pub chosen-empty : s ≡ 0 → emptyTail house (taking free) c f o new t ≡ chosenWay house (taking free) c f Hole o new t
   unfolding live tail
-  chosen-empty at-size none = sym (rw (chosen, at-size, none))
+  chosen-empty none = sym (rw (chosen, none))
 
-  pub chosen-tail : {end : WalkEnd} {k : ℕ} → o ≡ s → (s ≡ 0 → ⊥) → end ≡ walkLive 8 c (r % 8) (r / 8) s → end ≡ Block k
-      → tail house (taking free) c f (size house c f) new t ≡ chosenWay house (taking free) c f Hole o new t
-  unfolding atBlock
-  chosen-tail at-size some walk block = sym (rw (chosen, eq-eqb o s at-size, live-some s some, ← walk, block, ← i .size))
+  module _ (some : s ≡ 0 → ⊥) where
+    pub chosen-tail : {end : WalkEnd} {k : ℕ} → o ≡ s → end ≡ walkLive 8 c (r % 8) (r / 8) s → end ≡ Block k
+        → tail house (taking free) c f (size house c f) (size house c f) new t ≡ chosenWay house (taking free) c f Hole o new t
+    unfolding atBlock
+    chosen-tail at-size walk block = sym (rw (chosen, eq-eqb o s at-size, live-some s some, ← walk, block, at-size, ← i .size))
 
-  -- the write is past the size, since it has a byte
-  pub chosen-hole : {end : WalkEnd} → o ≡ s → (s ≡ 0 → ⊥) → end ≡ walkLive 8 c (r % 8) (r / 8) s → end ≡ Hole
-      → shadowWithLength house (taking free) c f o new t ≡ chosenWay house (taking free) c f Hole o new t
-  unfolding atBlock
-  chosen-hole at-size some walk hole = sym (rw (chosen, eq-eqb o s at-size, live-some s some, ← walk, hole, lt-leb (o + length new) s (omega (arith, ready .some))))
+    -- the write is past the size, since it has a byte
+    pub chosen-hole : {end : WalkEnd} → o ≡ s → end ≡ walkLive 8 c (r % 8) (r / 8) s → end ≡ Hole
+        → shadowWithLength house (taking free) c f o new t ≡ chosenWay house (taking free) c f Hole o new t
+    unfolding atBlock
+    chosen-hole at-size walk hole = sym (rw (chosen, eq-eqb o s at-size, live-some s some, ← walk, hole, lt-leb (o + length new) s (omega (arith, ready .some))))
 
-  pub chosen-inside : (o ≡ s → ⊥) → o + length new ≤ s → shadowInside house (taking free) c f o new t ≡ chosenWay house (taking free) c f Hole o new t
-  chosen-inside before l = sym (rw (chosen, ne-eqb o s before, le-leb (o + length new) s l))
+    pub chosen-inside : (o ≡ s → ⊥) → o + length new ≤ s → shadowInside house (taking free) c f o new t ≡ chosenWay house (taking free) c f Hole o new t
+    chosen-inside before l = sym (rw (chosen, live-some s some, ne-eqb o s before, le-leb (o + length new) s l))
 
-  pub chosen-past : (o ≡ s → ⊥) → s < o + length new → shadowWithLength house (taking free) c f o new t ≡ chosenWay house (taking free) c f Hole o new t
-  chosen-past before l = sym (rw (chosen, ne-eqb o s before, lt-leb (o + length new) s l))
+    pub chosen-past : (o ≡ s → ⊥) → s < o + length new → shadowWithLength house (taking free) c f o new t ≡ chosenWay house (taking free) c f Hole o new t
+    chosen-past before l = sym (rw (chosen, live-some s some, ne-eqb o s before, lt-leb (o + length new) s l))

@@ -23,7 +23,6 @@ pub record Ready (b c : List ℕ) (f o : ℕ) (new free : List ℕ) (base taken 
   pub blocks : Blocks free
   pub file : f < 32
   pub some : 0 < length new
-  pub within : o ≤ size house c f
   pub end : o + length new ≤ 32768
   pub address : rootAddress house c f ≡ rootAddress house b f
   pub pointers : inodeBlock house c ≡ inodeBlock house b

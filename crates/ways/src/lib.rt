@@ -30,7 +30,7 @@ ghost use Rattle.building.specs.Taking.{taking};
 ghost use Rattle.growing.specs.Planned.{PlanLaid};
 ghost use Rattle.ways.specs.Planning.{Descended, Ready, leafCopy};
 
-// A write into an empty file.
+// A write into an empty file. Before o it is a hole.
 fn fill_empty(
     board: &[u64],
     grown: &[u64],
@@ -38,20 +38,21 @@ fn fill_empty(
     plan: &mut [u64],
     base: u64,
     file: u64,
+    o: u64,
     new: &[u8],
     c: u64,
 ) -> Count
-    requires { ⌜ Ready (now board) (onto (now board) (now grown)) file 0 (now new) (now free) base c ⌝ }
+    requires { ⌜ Ready (now board) (onto (now board) (now grown)) file o (now new) (now free) base c ⌝ }
     ensures { λ r. ⌜ PlanLaid (now (plan .entry)) (base + 8 * c)
-        (emptyTail house (taking (now (free .entry))) (onto (now (board .entry)) (now (grown .entry))) file (now (new .entry)) c) (now (plan .exit)) r ⌝ }
+        (emptyTail house (taking (now (free .entry))) (onto (now (board .entry)) (now (grown .entry))) file o (now (new .entry)) c) (now (plan .exit)) r ⌝ }
 {
     let at = root_address(board, file);
-    let len = new.len() as u64;
-    let h = least_height(len);
-    let taken = build(board, grown, free, plan, base, h, 0, 0, 0, new, c);
+    let e = o + new.len() as u64;
+    let h = least_height(e);
+    let taken = build(board, grown, free, plan, base, h, 0, 0, o, new, c);
     let q = base + 8 * taken;
     pair(plan, q, at, 8 * word(free, taken - 1) + h);
-    let pairs = commit(plan, base + 8 * c, q + 1, at + 1, len);
+    let pairs = commit(plan, base + 8 * c, q + 1, at + 1, e);
     Count {
         pairs: pairs,
         taken: taken,
@@ -73,7 +74,7 @@ fn append(
         × Ready (now board) (onto (now board) (now grown)) file (size house (onto (now board) (now grown)) file) (now new) (now free) base c ⌝ }
     ensures { λ r. ⌜ PlanLaid (now (plan .entry)) (base + 8 * c)
         (tail house (taking (now (free .entry))) (onto (now (board .entry)) (now (grown .entry))) file
-        (size house (onto (now (board .entry)) (now (grown .entry))) file) (now (new .entry)) c) (now (plan .exit)) r ⌝ }
+        (size house (onto (now (board .entry)) (now (grown .entry))) file) (size house (onto (now (board .entry)) (now (grown .entry))) file) (now (new .entry)) c) (now (plan .exit)) r ⌝ }
 {
     let at = root_address(board, file);
     let root = word_on(board, grown, at);
@@ -290,10 +291,10 @@ pub fn way(
     let at = root_address(board, file);
     let root = word_on(board, grown, at);
     let s = word_on(board, grown, at + 1);
+    if s == 0 {
+        return fill_empty(board, grown, free, plan, base, file, o, new, c);
+    }
     if o == s {
-        if s == 0 {
-            return fill_empty(board, grown, free, plan, base, file, new, c);
-        }
         let WalkEnd::Block(_) = walk_live(board, grown, root % 8, root / 8, s) else {
             return shadow_with_length(board, grown, free, plan, base, file, o, new, c);
         };

@@ -1,15 +1,17 @@
 -- The measure is the height; the loop has laid the children before j, and their pointers stand in the page.
-use mathlib.Core.Path.{_∙_}
+use mathlib.Core.Path.{sym, _∙_}
 use mathlib.Core.Logic.{⊎-elim}
 use Prim.Native.Nat.{ℕ, _-_, _≤_, _<_}
 use native.Mathlib.Omega.{arith}
 use native.Mathlib.Nat.{mul-le-mul}
 use lib.ListN.{length}
 use borrow.Author.Needs.{needs}
+use borrow.Author.Tests.{not-true, not-false}
 use borrow.Fn.Kinds.{In, Out}
 use borrow.Fn.PlainCycle.{Measures, is, falls, and}
 use Rattle.words.proofs.word.Reads as word-reads
 use Rattle.trees.proofs.span.Reads as span-reads
+use Rattle.model.proofs.Paths.{fresh-pos}
 use Rattle.plans.specs.Laying.{onto}
 use Rattle.plans.proofs.link_on.Reads as link-on-reads
 use Rattle.building.proofs.+build.{statement}
@@ -23,6 +25,7 @@ use Rattle.building.proofs.minus.Reads as minus-reads
 use Rattle.building.proofs.part.Reads as part-reads
 use Rattle.building.proofs.take.Reads as take-reads
 use Rattle.building.proofs.take_data.Reads as take-data-reads
+use Rattle.building.proofs.touched.Reads as touched-reads
 
 abbrev μ : Measures 5 kinds.ps ℕ
 μ κs a = a .1 .1 .1 .1 .1 .0
@@ -35,6 +38,8 @@ below t = and 5 kinds.ps (falls 5 kinds.ps _<_ μ t) build.Pre
 
 abbrev known : ℕ → lts.Claims
 known t = (
+  touched-reads.Asked,
+  touched-reads.Learnt,
   take-data-reads.Asked,
   take-data-reads.Learnt,
   span-reads.Asked,
@@ -65,15 +70,15 @@ module _ (t : ℕ) where
   N F = F (known t) (at t) build.Post Inv-loop μ-loop
 
   returns : N lts.Need-returns
-  returns c = Trees.none _ _ _ _ _ _ _ (c .if1 .taken)
+  returns c = Trees.none _ _ _ _ _ _ _ (sym (c .before .touched .ensures) ∙ not-true _ (c .if1 .taken))
 
   take-data-requires : N lts.Need-take-data-requires
-  take-data-requires c κs = let a = c .before .before .before .before .before .before .before .before in
-      (a .pre .1 .1, omega (arith, a .pre .1 .2, Trees.need-some (a .args .h) (a .args .o) (length (a .args .new .now)) (c .before .before .if1 .left)))
+  take-data-requires c κs = let a = c .before .before .before .before .before .before .before .before .before in let e = c .before .before in let x = a .args in
+      (a .pre .1 .1, omega (arith, a .pre .1 .2, fresh-pos 8 (onto (x .board .now) (x .grown .now)) (x .h) (x .k) (x .n) (x .o) (length (x .new .now)) (sym (e .before .touched .ensures) ∙ not-false _ (e .if1 .left))))
 
   returns-2 : N lts.Need-returns-2
-  returns-2 c = Trees.leaf _ _ _ _ _ _ _ (c .before .before .before .before .before .if1 .left) (c .before .before .before .before .if2 .taken)
-      (c .before .before .take-data .ensures)
+  returns-2 c = let e = c .before .before .before .before .before in
+      Trees.leaf _ _ _ _ _ _ _ (sym (e .before .touched .ensures) ∙ not-false _ (e .if1 .left)) (c .before .before .before .before .if2 .taken) (c .before .before .take-data .ensures)
 
   loop-holds : N lts.Need-loop-holds
   loop-holds c = (omega arith, Trees.start)
@@ -82,43 +87,44 @@ module _ (t : ℕ) where
   mul-first c = omega (arith, mul-le-mul (c .loop-test .taken) (c .before .before .span .ensures .high))
 
   build-requires : N lts.Need-build-requires
-  build-requires c κs = let l = c .before .before .before .before .before .before .before in let a = l .before .before .before .before .before .before .before .before .before in
-      let p = c .before .before .before .before .before in
-      let room = Trees.child-fits (l .before .before .before .if1 .left) (l .before .before .if2 .left) (l .loop .inv .1) (a .pre .1 .2) (p .before .loop-test .taken)
-      (l .before .span .ensures .is) (p .part .ensures) (c .minus2 .ensures) in
+  build-requires c κs = let l = c .before .before .before .before .before .before in let e = l .before .before .before in let a = e .before .before .before .before .before .before .before in
+      let room = Trees.child-fits (sym (e .before .touched .ensures) ∙ not-false _ (e .if1 .left)) (l .before .before .if2 .left) (l .loop .inv .1) (a .pre .1 .2) (c .before .before .before .before .before .loop-test .taken)
+      (l .before .span .ensures .is) (c .before .before .before .before .part .ensures) (c .before .before .before .link-on .ensures) (c .before .minus .ensures) (c .minus2 .ensures) in
       (omega (arith, a .pre .0, l .before .before .if2 .left), (omega (arith, a .pre .1 .0), a .pre .1 .1, room))
 
   sub-word : N lts.Need-sub-word
-  sub-word c = Trees.taken-some _ _ _ _ _ _ (c .before .before .before .before .before .before .if3 .taken) (c .before .before .build .ensures)
+  sub-word c = let u = c .before .before .before in let l = c .before .before .before .before .before .before .before .before .before .before in
+      Trees.some-taken (l .loop .inv .1) (c .before .before .before .before .before .before .before .before .before .loop-test .taken) (l .before .span .ensures .is) (c .before .before .before .before .before .before .before .before .part .ensures) (c .before .before .before .before .before .before .before .link-on .ensures) (c .before .before .before .before .before .minus .ensures) (c .before .before .before .before .minus2 .ensures)
+      (u .build .ensures) (c .if3 .taken)
 
   mul-page : N lts.Need-mul-page
-  mul-page c = let l = c .before .before .before .before .before .before .before .before .before .before .before in
-      let a = l .before .before .before .before .before .before .before .before .before in
-      omega (arith, Taken.block-small _ (a .pre .1 .1) (c .word .ensures))
+  mul-page c = let a = c .before .before .before .before .before .before .before .before .before .before .before .before .before .before .before .before .before .before .before .before .before in omega (arith, Taken.block-small _ (a .pre .1 .1) (c .word .ensures))
 
   loop-again : N lts.Need-loop-again
-  loop-again c = let l = c .before .before .before .before in let less = c .before .before .before .loop-test .taken in
-      let is = l .before .span .ensures .is in let own = c .before .before .part .ensures in let old = c .before .link-on .ensures in
+  loop-again c = let l = c .before .before .before .before .before .before .before .before .before .before in let less = c .before .before .before .before .before .before .before .before .before .loop-test .taken in let inv = l .loop .inv .1 in
+      let is = l .before .span .ensures .is in let own = c .before .before .before .before .before .before .before .before .part .ensures in let old = c .before .before .before .before .before .before .before .link-on .ensures in
+      let left = c .before .before .before .before .before .minus .ensures in let at = c .before .before .before .before .minus2 .ensures in let laid = c .before .before .before .build .ensures in
       ⊎-elim
-      (λ w. rw (w .8, w .9, w .10) (omega arith, Trees.fresh-child (l .loop .inv .1) less is own old (w .0 .taken) (w .2 .ensures) (w .3 .ensures) (w .4 .ensures) (w .7 .ensures)))
+      (λ w. rw (w .2) (omega arith, Trees.fresh-child inv less is own old left at laid (w .0 .taken) (w .1 .ensures)))
       (⊎-elim
-      (λ w. rw (w .2, w .3, w .4) (omega arith, Trees.old-child (l .loop .inv .1) less is own old (w .0 .left) (w .1 .taken)))
-      (λ w. rw (w .2, w .3, w .4) (omega arith, Trees.dead-child (l .loop .inv .1) less is own old (w .0 .left) (w .1 .left))))
+      (λ w. rw (w .2) (omega arith, Trees.old-child inv less is own old left at laid (w .0 .left) (w .1 .taken)))
+      (λ w. rw (w .2) (omega arith, Trees.dead-child inv less is own old left at laid (w .0 .left) (w .1 .left))))
       (c .if3 .came)
 
   take-requires : N lts.Need-take-requires
-  take-requires c κs = let l = c .before .before in let a = l .before .before .before .before .before .before .before .before .before in
-      (a .pre .1 .1, Trees.node-fits (l .before .before .before .if1 .left) (l .before .before .if2 .left) (l .loop .inv .1) (a .pre .1 .2) (omega arith) (l .loop .inv .0))
+  take-requires c κs = let l = c .before .before in let e = l .before .before .before in let a = e .before .before .before .before .before .before .before in
+      (a .pre .1 .1, Trees.node-fits (sym (e .before .touched .ensures) ∙ not-false _ (e .if1 .left)) (l .before .before .if2 .left) (l .loop .inv .1) (a .pre .1 .2) (omega arith) (l .loop .inv .0))
 
   same-length-2 : N lts.Need-same-length-2
   same-length-2 c = c .before .before .take .kept .1 .0 ∙ Taken.same-length (c .before .before .before .before .before .loop .inv .1 .took)
 
   returns-3 : N lts.Need-returns-3
-  returns-3 c = let l = c .before .before .before .before .before in
-      Trees.node (l .before .before .before .if1 .left) (l .before .before .if2 .left) (l .loop .inv .1) (omega arith) (l .loop .inv .0) (c .before .before .take .ensures)
+  returns-3 c = let l = c .before .before .before .before .before in let e = l .before .before .before in
+      Trees.node (sym (e .before .touched .ensures) ∙ not-false _ (e .if1 .left)) (l .before .before .if2 .left) (l .loop .inv .1) (omega arith) (l .loop .inv .0) (c .before .before .take .ensures)
 
 pub +build-spec : {M : Type 1} → statement M
 +build-spec = close μ λ t. lts.spec (known t) (at t) build.Post Inv-loop μ-loop
+    (λ c κs. search needs)
     (returns t)
     (take-data-requires t)
     (λ c. search needs)

@@ -1,5 +1,6 @@
 -- The measure is the height; the loop has laid the pages under the children below j.
-use mathlib.Core.Logic.{⊎-elim}
+use mathlib.Core.Path.{refl}
+use mathlib.Core.Logic.{⊎-elim, inl}
 use Prim.Native.Nat.{ℕ, _-_, _≤_, _<_}
 use native.Mathlib.Omega.{arith}
 use native.Mathlib.Nat.{mul-le-mul}
@@ -8,6 +9,7 @@ use borrow.Author.Needs.{needs}
 use borrow.Fn.Kinds.{In, Out}
 use borrow.Fn.PlainCycle.{Measures, is, falls, and}
 use Rattle.trees.proofs.span.Reads as span-reads
+use Rattle.model.proofs.Paths.{fresh-quiet}
 use Rattle.plans.specs.Laying.{onto}
 use Rattle.plans.proofs.link_on.Reads as link-on-reads
 use Rattle.building.proofs.Taken as Taken
@@ -58,8 +60,16 @@ module _ (t : ℕ) where
   N F = F (known t) (at t) tail-pages.Post Inv-loop μ-loop
 
   build-requires : N lts.Need-build-requires
-  build-requires c κs = let s = c .before .before .before .before .before .before .before in let a = s .args in
-      (s .pre .1 .0, s .pre .1 .1, omega (arith, s .pre .1 .2, Children.need-dead (a .h) (a .n) (length (a .new .now)) (c .before .if1 .taken)))
+  build-requires c κs = let s = c .before .before .before .before .before .before .before in let a = s .args in (
+    s .pre .1 .0,
+    s .pre .1 .1,
+    omega (
+      arith,
+      s .pre .1 .2,
+      Children.need-dead (a .h) (a .n) (length (a .new .now)) (c .before .if1 .taken),
+      fresh-quiet 8 (onto (a .board .now) (a .grown .now)) (a .h) 0 0 0 (length (a .new .now)) (inl refl),
+    ),
+  )
 
   returns : N lts.Need-returns
   returns c = let u = c .before .before .before .before in let a = u .before .before .before .before .before .before .args in

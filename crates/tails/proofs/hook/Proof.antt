@@ -1,11 +1,21 @@
+use mathlib.Core.Path.{refl}
+use mathlib.Core.Logic.{inl}
 use Prim.Native.Nat.{_-_}
 use native.Mathlib.Omega.{arith}
+use lib.ListN.{length}
 use borrow.Author.Needs.{needs}
+use Rattle.model.proofs.Paths.{fresh-quiet}
 use Rattle.plans.specs.Laying.{onto}
 use Rattle.building.proofs.Taken.{block-small}
 use Rattle.tails.proofs.Hooking.{some, last}
 use Rattle.tails.proofs.hook.Statement.{statement}
 use Rattle.tails.proofs.hook.Tie as tie
+
+build-requires : tie.Need-build-requires
+build-requires c κs =
+    let s = c .before .before .before .before .before in
+    let a = s .args in
+    (s .pre .0, s .pre .1, omega (arith, s .pre .3, fresh-quiet 8 (onto (a .board .now) (a .grown .now)) (a .h) 0 0 0 (length (a .new .now)) (inl refl)))
 
 sub-word : tie.Need-sub-word
 sub-word c =
@@ -28,4 +38,4 @@ returns c =
 pub hook-spec : {M : Type 1} → statement M
 hook-spec =
     tie.close
-    (tie.spec (λ c. search needs) (λ c κs. search needs) sub-word (λ c κs. search needs) mul-result returns)
+    (tie.spec (λ c. search needs) build-requires sub-word (λ c κs. search needs) mul-result returns)

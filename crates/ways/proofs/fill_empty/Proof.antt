@@ -1,4 +1,4 @@
-use Prim.Native.Nat.{_≤_}
+use Prim.Native.Nat.{_+_, _≤_}
 use native.Mathlib.Omega.{arith}
 use lib.ListN.{length}
 use borrow.Author.Needs.{needs}
@@ -11,17 +11,17 @@ use Rattle.ways.proofs.fill_empty.Tie as tie
 low : (c : tie.After-least-height) → c .least-height .result ≤ 3
 low c =
     let a = c .before .before .before .before .before .before .before .args in
-    omega (arith, c .least-height .ensures, least-within 8 (omega arith) 3 (length (a .new .now)))
+    omega (arith, c .least-height .ensures, least-within 8 (omega arith) 3 (a .o + length (a .new .now)))
 
 build-requires : tie.Need-build-requires
 build-requires c κs =
     let h = c .before in
-    Ways.may-build (h .least-height .result) 0 (h .before .before .before .before .before .before .before .pre) (low h)
+    Ways.may-build (h .least-height .result) 0 0 (h .before .before .before .before .before .before .before .args .o) (h .before .before .before .before .before .before .before .pre) (low h)
 
 some : (c : tie.After-build) → let a = c .before .before .before .before .before .before .before .before .before .args in Ways.Some (a .base) (a .c) (c .build .result)
 some c =
     let h = c .before .before in
-    Ways.some-built (h .least-height .result) 0 0 0 (h .before .before .before .before .before .before .before .pre) (low h) (c .build .ensures)
+    Ways.some-built (h .least-height .result) 0 0 (h .before .before .before .before .before .before .before .args .o) (h .before .before .before .before .before .before .before .pre) (low h) (c .build .ensures)
 
 mul-q : tie.Need-mul-q
 mul-q c = omega (arith, some (c .before .before))
@@ -62,6 +62,7 @@ fill-empty-spec =
     tie.close
     (tie.spec
     (λ c κs. search needs)
+    (λ c. search needs)
     (λ c κs. search needs)
     build-requires
     mul-q

@@ -28,7 +28,7 @@ build-requires : tie.Need-build-requires
 build-requires c κs =
     let d = c .before in
     let r = d .descend .result in
-    Ways.may-build (r .height) (r .offset) (d .before .before .before .before .before .before .before .before .before .pre .1) (low d)
+    Ways.may-build (r .height) (r .block) (r .left) (r .offset) (d .before .before .before .before .before .before .before .before .before .pre .1) (low d)
 
 some : (c : tie.After-build) → let a = c .before .before .before .before .before .before .before .before .before .before .before .args in
     Ways.Some (a .base) (a .c) (c .build .result)

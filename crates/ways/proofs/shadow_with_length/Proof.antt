@@ -21,7 +21,8 @@ build-requires : tie.Need-build-requires
 build-requires c κs =
     let w = c .before in
     let s = w .before .before .before .before .before .before .before .before in
-    Ways.may-build (w .before .word-on .result % 8) (s .args .o) (s .pre .1) (low w)
+    let r = w .before .word-on .result in
+    Ways.may-build (r % 8) (r / 8) (w .word-on2 .result) (s .args .o) (s .pre .1) (low w)
 
 some : (c : tie.After-build) → let a = c .before .before .before .before .before .before .before .before .before .before .args in Ways.Some (a .base) (a .c) (c .build .result)
 some c =

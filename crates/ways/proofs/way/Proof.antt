@@ -1,6 +1,9 @@
 use mathlib.Core.Path.{_∙_}
+use Prim.Native.Nat.{_<_}
 use native.Mathlib.Omega.{arith}
 use borrow.Author.Needs.{needs}
+use Rattle.model.specs.Layout.{house}
+use Rattle.model.specs.Board.{size}
 use Rattle.plans.specs.Laying.{onto}
 use Rattle.ways.proofs.Ways as Ways
 use Rattle.ways.proofs.way.Statement.{statement}
@@ -13,66 +16,58 @@ inode c =
     Ways.inode (w .before .before .before .before .before .before .before .pre) (w .before .root-address .ensures) (w .word-on .ensures) (c .word-on2 .ensures)
 
 fill-empty-requires : tie.Need-fill-empty-requires
-fill-empty-requires c κs =
-    let t = c .before .before in
-    rw (t .if1 .taken ∙ c .before .if2 .taken) at (t .before .before .before .before .before .before .before .before .before .pre)
+fill-empty-requires c κs = c .before .before .before .before .before .before .before .before .before .before .pre
 
 returns : tie.Need-returns
 returns c =
     let z = c .before .before .before .before in
-    let t = z .before in
-    let p = t .before .before .before .before .before .before .before .before .before .pre in
-    Ways.same-plan (Ways.chosen-empty p (inode (t .before)) (t .if1 .taken) (z .if2 .taken)) (c .before .before .fill-empty .ensures)
+    Ways.same-plan (Ways.chosen-empty (z .before .before .before .before .before .before .before .before .before .pre) (inode (z .before)) (z .if1 .taken)) (c .before .before .fill-empty .ensures)
+
+-- the file is not empty
+live : (c : tie.Else1) → let a = c .before .before .before .before .before .before .before .before .before .args in 0 < size house (onto (a .board .now) (a .grown .now)) (a .file)
+live c = omega (arith, inode (c .before) .size, c .if1 .left)
+
+shadow-with-length-requires : tie.Need-shadow-with-length-requires
+shadow-with-length-requires c κs = let e = c .before .before .before .before .before in (live e, e .before .before .before .before .before .before .before .before .before .pre)
 
 returns-2 : tie.Need-returns-2
 returns-2 c =
     let t = c .before .before .before .before in
     let l = t .before .before in
     let w = l .before .before .before in
-    let p = w .before .before .before .before .before .before .before .before .pre in
-    Ways.same-plan (Ways.chosen-hole p (inode w) (l .before .before .if1 .taken) (l .before .if2 .left) (l .walk-live .ensures) (t .enum-told2 .given .1))
+    Ways.same-plan (Ways.chosen-hole (w .before .before .before .before .before .before .before .before .pre) (inode w) (l .before .before .if1 .left) (l .before .if2 .taken) (l .walk-live .ensures) (t .enum-told2 .given .1))
     (c .before .before .shadow-with-length .ensures)
 
 append-requires : tie.Need-append-requires
 append-requires c κs =
-    let t = c .before .before .before .before .before in
-    let p = t .before .before .before .before .before .before .before .before .before .pre in
-    (omega (arith, t .if1 .taken, c .before .before .before .before .if2 .left, p .within), rw (t .if1 .taken ∙ inode (t .before) .size) at p)
+    let e = c .before .before .before .before .before in
+    (live e, rw (c .before .before .before .before .if2 .taken ∙ inode (e .before) .size) at (e .before .before .before .before .before .before .before .before .before .pre))
 
 returns-3 : tie.Need-returns-3
 returns-3 c =
     let t = c .before .before .before .before in
     let l = t .before .before in
     let w = l .before .before .before in
-    let p = w .before .before .before .before .before .before .before .before .pre in
-    Ways.same-plan (Ways.chosen-tail p (inode w) (l .before .before .if1 .taken) (l .before .if2 .left) (l .walk-live .ensures) (t .enum-told .given .1))
+    Ways.same-plan (Ways.chosen-tail (w .before .before .before .before .before .before .before .before .pre) (inode w) (l .before .before .if1 .left) (l .before .if2 .taken) (l .walk-live .ensures) (t .enum-told .given .1))
     (c .before .before .append .ensures)
 
 shadow-inside-requires : tie.Need-shadow-inside-requires
-shadow-inside-requires c κs =
-    let w = c .before .before .before in
-    let p = w .before .before .before .before .before .before .before .before .pre in
-    (omega (arith, inode w .size, c .before .before .if1 .left, p .within), p)
+shadow-inside-requires c κs = let e = c .before .before .before in (live e, e .before .before .before .before .before .before .before .before .before .pre)
 
 returns-4 : tie.Need-returns-4
 returns-4 c =
     let t = c .before .before .before .before in
-    let w = t .before .before in
-    let p = w .before .before .before .before .before .before .before .before .pre in
-    Ways.same-plan (Ways.chosen-inside p (inode w) (t .before .if1 .left) (t .if3 .taken)) (c .before .before .shadow-inside .ensures)
+    let e = t .before .before in
+    Ways.same-plan (Ways.chosen-inside (e .before .before .before .before .before .before .before .before .before .pre) (inode (e .before)) (e .if1 .left) (t .before .if2 .left) (t .if3 .taken)) (c .before .before .shadow-inside .ensures)
 
 shadow-with-length-requires-2 : tie.Need-shadow-with-length-requires-2
-shadow-with-length-requires-2 c κs =
-    let w = c .before .before .before in
-    let p = w .before .before .before .before .before .before .before .before .pre in
-    (omega (arith, inode w .size, c .before .before .if1 .left, p .within), p)
+shadow-with-length-requires-2 c κs = let e = c .before .before .before in (live e, e .before .before .before .before .before .before .before .before .before .pre)
 
 returns-5 : tie.Need-returns-5
 returns-5 c =
     let t = c .before .before .before .before in
-    let w = t .before .before in
-    let p = w .before .before .before .before .before .before .before .before .pre in
-    Ways.same-plan (Ways.chosen-past p (inode w) (t .before .if1 .left) (t .if3 .left)) (c .before .before .shadow-with-length2 .ensures)
+    let e = t .before .before in
+    Ways.same-plan (Ways.chosen-past (e .before .before .before .before .before .before .before .before .before .pre) (inode (e .before)) (e .if1 .left) (t .before .if2 .left) (t .if3 .left)) (c .before .before .shadow-with-length2 .ensures)
 
 pub way-spec : {M : Type 1} → statement M
 way-spec =
@@ -88,7 +83,7 @@ way-spec =
     (λ c κs. search needs)
     (λ c. search needs)
     (λ c. search needs)
-    (λ c κs. search needs)
+    shadow-with-length-requires
     (λ c. search needs)
     returns-2
     append-requires
