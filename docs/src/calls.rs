@@ -79,11 +79,10 @@ pub fn read(board: &[u64], file: u64, offset: u64, out: &mut [u8]) -> Result<u64
     Ok(count)
 }
 
-/// Plans a write of `bytes` at `offset` and answers the pair count. Refuses 1, 2, 3, 4, then 5: the offset exceeds the
-/// size; 6: the end exceeds 32,768; 7: too few free blocks; 8: the plan slice is too short.
+/// Plans a write of `bytes` at `offset` and answers the pair count. Refuses 1, 2, 3, 4, then 6: the end exceeds 32,768;
+/// 7: too few free blocks; 8: the plan slice is too short. N3: "Offsets above the size are allowed", "5 never occurs".
 pub fn write(board: &[u64], file: u64, offset: u64, bytes: &[u8], plan: &mut [u64]) -> Result<u64, u64> {
-    let inode = demand_file(board, file)?;
-    demand(offset <= inode.size, 5)?;
+    demand_file(board, file)?;
     let end = offset.checked_add(bytes.len() as u64); // "A sum too large for 64 bits included."
     demand(end.is_some_and(|end| end <= SIZE_LIMIT), 6)?;
     let planned = plan::write(board, file, offset, bytes).ok_or(7_u64)?;

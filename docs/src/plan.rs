@@ -109,12 +109,12 @@ impl<'a> Write<'a> {
         Write { board, inode: inode(board, file), offset, bytes, end: offset + bytes.len() as u64 }
     }
 
-    /// Rules 3 to 6, the first that applies.
+    /// Rules 3 to 6, the first that applies. An offset above the size goes by rule 4 or rule 6, as N3 says.
     fn plan(&self) -> Option<Plan> {
         if let Some(plan) = self.single_word() {
             return Some(plan);
         }
-        if self.offset == self.inode.size && self.path_has_no_live_null() {
+        if self.goes_tail_way() {
             return self.tail();
         }
         if self.end <= self.inode.size {
@@ -148,7 +148,13 @@ impl<'a> Write<'a> {
         Some(vec![vec![(address(block, first % BLOCK_BYTES / 8), word_of(first, kept))]])
     }
 
-    /// Rule 4's condition: "no live pointer on the path to byte o is null". The root counts as one of them.
+    /// Rule 4's condition: "o = s and no live pointer on the path to byte o is null". With s = 0 no pointer is live, so
+    /// o = 0 meets it; a larger offset follows N3: "With size 0 it goes the tail way".
+    fn goes_tail_way(&self) -> bool {
+        self.inode.size == 0 || self.offset == self.inode.size && self.path_has_no_live_null()
+    }
+
+    /// "No live pointer on the path to byte o is null", for o = s. The root counts as one of them.
     fn path_has_no_live_null(&self) -> bool {
         let mut tree = self.inode.tree();
         while tree.start < self.inode.size {
@@ -168,7 +174,7 @@ impl<'a> Write<'a> {
         let mut fresh = Fresh::of(self.board);
         let mut others = Vec::new();
         if self.inode.size == 0 {
-            // "The old root is ignored and the least sufficient height is used."
+            // "The old root is ignored and the least sufficient height is used." N3: "with holes left null".
             let height = least_height(self.end);
             let hole = Subtree { block: 0, height, start: 0 };
             let block = self.build(&mut fresh, hole)?;
@@ -232,7 +238,7 @@ impl<'a> Write<'a> {
     }
 
     /// Rule 6: "fresh blocks on all paths from the root to written bytes, and a fresh copy of the inode leaf with new
-    /// root and size; the commit is the inode pointer".
+    /// root and size; the commit is the inode pointer". An offset above a size that isn't 0 goes this way too.
     fn shadow_with_length(&self) -> Option<Plan> {
         let mut fresh = Fresh::of(self.board);
         let tree = self.inode.tree();
@@ -244,27 +250,39 @@ impl<'a> Write<'a> {
         Some(vec![fresh.stores, vec![(self.inode.pointer_address, 8 * leaf)]])
     }
 
-    /// Takes a fresh block in place of the old one of `old`, which holds written bytes in its span, and fresh blocks
-    /// beneath it where its pointers lead to written bytes: "those beneath a block before it, left to right".
+    /// Whether the path to byte s − 1 has an existing block at `old`, for an offset above the size. N3: "the path to
+    /// byte s − 1 is made fresh too, as far as its blocks exist". A null on it is replaced only for written bytes.
+    fn on_path_to_old_end(&self, old: Subtree) -> bool {
+        let size = self.inode.size;
+        self.offset > size && old.block != 0 && old.start < size && size <= old.end()
+    }
+
+    /// Whether a fresh block takes the place of `old`.
+    fn made_fresh(&self, old: Subtree) -> bool {
+        self.touches(old.start, old.end()) || self.on_path_to_old_end(old)
+    }
+
+    /// Takes a fresh block in place of the old one of `old`, which is to be made fresh, and fresh blocks beneath it
+    /// likewise: "those beneath a block before it, left to right".
     fn build(&self, fresh: &mut Fresh, old: Subtree) -> Option<u64> {
         let words = if old.height == 0 { self.data_words(old) } else { self.pointer_words(fresh, old)? };
         fresh.take(words)
     }
 
-    /// The pointers of a fresh block: "bytes and pointers at or past the new size are 0". All bytes from the old size
-    /// to the new one are written, so a pointer that is not replaced is visible below the old size or 0.
+    /// The pointers of a fresh block: "bytes and pointers at or past the new size are 0". N3: "A pointer whose span
+    /// starts at s or later and has no written byte beneath it is null." So a pointer that is not replaced is the old
+    /// one if it was live, and otherwise 0.
     fn pointer_words(&self, fresh: &mut Fresh, old: Subtree) -> Option<[u64; 8]> {
         let mut words = [0; 8];
         for (index, pointer) in (0..).zip(&mut words) {
             let below = old.below(self.board, index, self.inode.size);
-            let written = self.touches(below.start, below.end());
-            let block = if written { self.build(fresh, below)? } else { below.block };
+            let block = if self.made_fresh(below) { self.build(fresh, below)? } else { below.block };
             *pointer = 8 * block;
         }
         Some(words)
     }
 
-    /// The words of a fresh data block.
+    /// The words of a fresh data block. The block with byte s − 1 has "zeros from s on" where nothing is written.
     fn data_words(&self, old: Subtree) -> [u64; 8] {
         std::array::from_fn(|index| word_of(old.start + 8 * index as u64, |position| self.visible(old.block, position)))
     }

@@ -1,4 +1,5 @@
-"""A model of the cabinet memory board in Python, from document 01 (docs/DECISIONS.md says how far apart from the definitions).
+"""A model of the cabinet memory board in Python, from document 01 and N3 of document 02 (docs/DECISIONS.md says how far apart from
+the definitions).
 
 It surveys a board into dictionaries and plans with explicit loops, where the definitions in crates/model recurse, so that an error is
 not likely to be made twice. Answers are numbers, a refusal r is -r. vectors.py holds the definitions against it.
@@ -212,9 +213,11 @@ class Write:
         self.pool, self.lacking = list(survey.free), 0
         self.grown = {}
         self.epochs = [[]]
-        self.way = 'empty'
+        self.past = offset > self.size
+        prefix = 'past ' if self.past else ''
+        self.way = prefix + 'empty'
         if new:
-            self.way = self.grow() + self.place()
+            self.way = self.grow() + prefix + self.place()
 
     def pairs(self):
         out = []
@@ -272,8 +275,18 @@ class Write:
             address, height, start = 8 * block + j, height - 1, start + j * SPAN[height - 1]
         return out
 
+    def written(self, start, height):
+        """Whether a new byte lies in the span."""
+        return start < self.end and self.offset < start + SPAN[height]
+
+    def copied(self, block, height, start):
+        """Whether `block` exists, the offset is past the end and byte s - 1 lies in the span."""
+        return block != 0 and self.past and start < self.size <= start + SPAN[height]
+
     def fresh(self, block, height, start):
-        """A fresh tree for what is visible at `block`, 0 if nothing is, with the new bytes in it."""
+        """A fresh tree for what is visible at `block`, 0 if nothing is, with the new bytes in it.
+
+        Past the end the blocks on the path to byte s - 1 are fresh too."""
         if height == 0:
             held = [0] * 64
             for i in range(64):
@@ -287,8 +300,8 @@ class Write:
         for j in range(8):
             child = start + j * SPAN[height - 1]
             old = self.at(8 * block + j) if block and child < self.size else 0
-            written = child < self.end and self.offset < child + SPAN[height - 1]
-            words.append(8 * self.fresh(old // 8, height - 1, child) if written else old)
+            renewed = self.written(child, height - 1) or self.copied(old // 8, height - 1, child)
+            words.append(8 * self.fresh(old // 8, height - 1, child) if renewed else old)
         return self.take(words)
 
     def place(self):
@@ -296,7 +309,7 @@ class Write:
         home = path[-1] if path and path[-1][1] and path[-1][2] == 0 else None
         if self.end <= self.size and self.offset // 8 == (self.end - 1) // 8 and home:
             return self.single_word(home)
-        if self.offset == self.size and all(block for _, block, _, _ in path):
+        if self.size == 0 or self.offset == self.size and all(block for _, block, _, _ in path):
             return self.tail(path, home)
         if self.end <= self.size:
             return self.inside()
@@ -410,8 +423,6 @@ def planned(pairs, plan):
 
 def plan_write(board, file, offset, new):
     survey = of_file(board, file)
-    if offset > survey.size[file]:
-        raise Refused(5)
     if offset + len(new) > MOST:
         raise Refused(6)
     plan = Write(survey, file, offset, new)

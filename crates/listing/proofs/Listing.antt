@@ -18,7 +18,7 @@ use Rattle.model.specs.Calls.{wordCountFault, boardFaults, checkAnswer, freeCou
 use Rattle.model.specs.Lister.{field, line, fileLine, boardLines, answerLines, listing}
 use Rattle.model.specs.Lister.{word-blocks, word-free, word-file, word-size, word-height, word-data, word-refused}
 use Rattle.model.proofs.Refusals.{same-refused, same-done}
-use Rattle.model.proofs.GrowthWay.{live-some}
+use Rattle.model.proofs.Trees.{live-some}
 use Rattle.trees.specs.Trees.{Counted}
 use Rattle.images.specs.Images.{boardOf, Loaded}
 use Rattle.images.proofs.Boards.{read-as, check-answer}

@@ -9,7 +9,7 @@ use native.Mathlib.Nat.{zero-add, zero-mul, sub-zero, add-zero, add-suc, div-eq-
 use lib.ListN.{length}
 use lib.Dec.{T}
 use Rattle.model.specs.Lists.{tabulate, sum}
-use Rattle.model.specs.Tree.{span, cell, link, blocks, sound}
+use Rattle.model.specs.Tree.{span, cell, link, walk, blocks, sound}
 use Rattle.model.specs.Fresh.{Page}
 use Rattle.model.specs.Change.{levelPage, levelBelow, levels, levelTop}
 use Rattle.model.proofs.Cases.{split}
@@ -17,14 +17,16 @@ use Rattle.model.proofs.Sums.{sum-le, only, only-same, sum-only}
 use Rattle.model.proofs.Counting.{one, occ}
 use Rattle.model.proofs.Spans.{child, span-pos, span-mono}
 use Rattle.model.proofs.Perform.{length-tabulate}
-use Rattle.model.proofs.Trees.{blocks-null, sound-null}
+use Rattle.model.proofs.Trees.{walk-null, blocks-null, sound-null}
 use Rattle.model.proofs.Agree.{byteAt, spanByte, agree, byteAt-null, span-byte-in, span-byte-past, span-byte-null, agree-span-byte, link-cell, agree-blocks, agree-sound, beneath, occ-above, sound-node, aligned-zero}
 use Rattle.model.proofs.Built.{held, held-left, held-right, used}
+use Rattle.model.proofs.Shown.{agree-walk}
 
 module _ (W : ℕ) (b b′ : List ℕ) (top : ℕ) where
-  -- (h, k, n) on b has become (h′, k′, n) on b′: all bytes are as they were, and only the extra blocks are more
+  -- (h, k, n) on b has become (h′, k′, n) on b′: all bytes are as they were, walks to them end where they ended, and only the extra blocks are more
   pub record Grown (h k h′ k′ n : ℕ) (extra : ℕ → ℕ) : Type 0 where
     pub bytes : (i : ℕ) → spanByte W b′ h′ k′ n i ≡ spanByte W b h k n i
+    pub walks : (i : ℕ) → i < span W h → walk W b′ h′ k′ n i ≡ walk W b h k n i
     pub counts : (q : ℕ) → occ q (blocks W b′ h′ k′ n) ≤ occ q (blocks W b h k n) + extra q
     pub fine : T (sound W b top h k n) → T (sound W b′ top h′ k′ n)
 
@@ -49,6 +51,10 @@ module _ (W : ℕ) (pos : 0 < W) (b : List ℕ) (h k p n : ℕ) (there : 0 < p) 
   grow-low : (i : ℕ) → i < span W h → byteAt W b (suc h) p n i ≡ byteAt W b h k n i
   unfolding byteAt
   grow-low i l = rw (div-eq-of-lt l, mod-eq-of-lt l, first-block, zero-mul, sub-zero)
+
+  grow-walk : (i : ℕ) → i < span W h → walk W b (suc h) p n i ≡ walk W b h k n i
+  unfolding walk
+  grow-walk i l = rw (div-eq-of-lt l, mod-eq-of-lt l, first-block, zero-mul, sub-zero)
 
   grow-high : (i : ℕ) → span W h ≤ i → i < span W (suc h) → byteAt W b (suc h) p n i ≡ 0
   unfolding byteAt
@@ -110,6 +116,7 @@ module _ (W : ℕ) (pos : 0 < W) (b b′ : List ℕ) (top : ℕ) (fresh : ℕ �
   unfolding tabulate levelBelow held
   grown-over h k n zero le g a = rw (add-zero h) (record {
     bytes = λ i. sym (agree-span-byte W pos b b′ h k n i a);
+    walks = λ i l. sym (agree-walk W pos b b′ h k n i l a);
     counts = λ q. omega (arith, ap (occ q) (agree-blocks W pos b b′ h k n a));
     fine = λ t. rw (agree-sound W pos b b′ top h k n a) at t;
   })
@@ -120,6 +127,7 @@ module _ (W : ℕ) (pos : 0 < W) (b b′ : List ℕ) (top : ℕ) (fresh : ℕ �
       let there : 0 < fresh d = nonzero d (omega arith) in
       rw (add-suc h d) (record {
         bytes = λ i. grow-byte W pos b′ (h + d) (levelBelow fresh k d) (fresh d) n there page i ∙ old .bytes i;
+        walks = λ i l. grow-walk W pos b′ (h + d) (levelBelow fresh k d) (fresh d) n there page i (omega (arith, span-mono W pos h (h + d) (omega arith))) ∙ old .walks i l;
         counts = λ q. omega (arith, grow-occ W pos b′ (h + d) (levelBelow fresh k d) (fresh d) n there page q, old .counts q, used-next fresh q d);
         fine = λ t. grow-sound W pos b′ (h + d) (levelBelow fresh k d) (fresh d) n there page top (below d (omega arith)) (old .fine t);
       })
@@ -130,6 +138,7 @@ module _ (W : ℕ) (pos : 0 < W) (b b′ : List ℕ) (top : ℕ) (fresh : ℕ �
   unfolding levels levelTop occ
   grown h zero n d le g a = record {
     bytes = λ i. span-byte-null W b′ (h + d) n i ∙ sym (span-byte-null W b h n i);
+    walks = λ i l. walk-null W b′ (h + d) n i ∙ sym (walk-null W b h n i);
     counts = λ q. rw (blocks-null W b′ (h + d) n, occ) (omega arith);
     fine = λ t. rw (sound-null W b′ top (h + d) n) tt;
   }

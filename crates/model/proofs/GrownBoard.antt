@@ -29,7 +29,7 @@ use Rattle.model.proofs.Shown.{words-pos}
 use Rattle.model.proofs.Accepting.{facts}
 use Rattle.model.proofs.Supplied.{Supply}
 use Rattle.model.proofs.Steps.{committed}
-use Rattle.model.proofs.GrowthWay.{growthStep, growth-performed, growth-grows, growth-empty, growth-spanned, growth-size, growth-length, growth-inode, growth-address, growth-height, growth-reaches, growth-top, growth-held}
+use Rattle.model.proofs.GrowthWay.{growthStep, growth-performed, growth-either, growth-size, growth-length, growth-inode, growth-address, growth-height, growth-reaches, growth-top, growth-held}
 
 -- c is the board that growth leaves of b, for a write to file f from o up to e
 pub record GrownBoard (g : Layout) (b c : List ℕ) (f o e : ℕ) : Type 0 where
@@ -137,10 +137,4 @@ module _ (g : Layout) (fit : Fits g) (b : List ℕ) (t : T (accepted g b)) (f : 
       })
 
   pub grown-board : growth g fresh b f e .taken ≤ lim → GrownBoard g b (performed b (concat (planEpochs (growth g fresh b f e .steps)))) f o e
-  grown-board room = elim (split (size g b f) 0) [
-    | inl z ↦ let none : size g b f ≡ 0 = omega arith in rw (growth-empty g fresh b f e none) (same-board (λ l. absurd (omega arith)))
-    | inr l ↦ elim (split e (span (g .words) (root g b f % g .words))) [
-      | inl u ↦ rw (growth-spanned g fresh b f e u) (same-board (λ z. u))
-      | inr m ↦ rw (growth-grows g fresh b f e l m) (larger-board l m (rw (growth-grows g fresh b f e l m) at room))
-    ]
-  ]
+  grown-board = growth-either g fresh b f e (λ p. p .taken ≤ lim → GrownBoard g b (performed b (concat (planEpochs (p .steps)))) f o e) (λ reach room. same-board reach) larger-board

@@ -1,7 +1,7 @@
 -- Growth, the first step of a write that ends past its tree's span, is a good step: the file reads as before. On the board that it leaves the tree spans
 -- the write, and the fresh blocks that it did not take are still not live.
 use mathlib.Core.Path.{_≡_, refl, sym, ap, subst, _∙_}
-use mathlib.Core.Logic.{inl}
+use mathlib.Core.Logic.{inl, inr}
 use mathlib.Core.Bool.{true, and-false}
 use mathlib.Core.List.{List, [], _∷_, append-nil}
 use Prim.Native.Nat.{ℕ, zero, suc, _+_, _-_, _*_, _/_, _%_, _≤_, _<_}
@@ -13,14 +13,16 @@ use borrow.Author.Tests.{lt-ltb, le-ltb}
 use Rattle.model.specs.Lists.{concat}
 use Rattle.model.specs.Layout.{Layout, Fits, files}
 use Rattle.model.specs.Tree.{live, span, least}
-use Rattle.model.specs.Board.{rootBlocks, greatest, blockCount, inodeBlock, rootAddress, sizeAddress, root, size, contents, fileBlocks, liveBlocks, accepted}
+use Rattle.model.specs.Board.{rootWalk, rootBlocks, greatest, blockCount, inodeBlock, rootAddress, sizeAddress, root, size, walkTo, contents, fileBlocks, liveBlocks, accepted}
 use Rattle.model.specs.Store.{Store, store, performed}
-use Rattle.model.specs.Plan.{Step, step, plan, planEpochs}
+use Rattle.model.specs.Plan.{Step, step, Plan, plan, planEpochs}
 use Rattle.model.specs.Fresh.{Page, stored}
 use Rattle.model.specs.Change.{levels, levelTop, growthTo, growth}
+use Rattle.model.proofs.Cases.{split}
 use Rattle.model.proofs.Counting.{occ}
-use Rattle.model.proofs.Spans.{least-reaches, least-within, least-above}
+use Rattle.model.proofs.Spans.{span-mono, least-reaches, least-within, least-above}
 use Rattle.model.proofs.Perform.{All, address-block}
+use Rattle.model.proofs.Trees.{live-some}
 use Rattle.model.proofs.Addresses.{used-none}
 use Rattle.model.proofs.Agree.{agree, agree-away, agree-blocks, agree-trans}
 use Rattle.model.proofs.Built.{held, used}
@@ -55,24 +57,30 @@ module _ (g : Layout) (fresh : ℕ → ℕ) (b : List ℕ) (f h : ℕ) where
   unfolding growthTo plan allCommitted
   growth-performed = performed-steps b (growthStep ∷ [])
 
-pub live-some : (n : ℕ) → 0 < n → live n ≡ true
-unfolding live
-live-some zero l = absurd (omega arith)
-live-some (suc n) l = refl
-
 module _ (g : Layout) (fresh : ℕ → ℕ) (b : List ℕ) (f e : ℕ) where
   -- *If s > 0 and e exceeds the span, the least sufficient height is reached first*
-  pub growth-grows : 0 < size g b f → span (g .words) (root g b f % g .words) < e → growth g fresh b f e ≡ growthTo g fresh b f (least (g .words) (g .height) e)
+  growth-grows : 0 < size g b f → span (g .words) (root g b f % g .words) < e → growth g fresh b f e ≡ growthTo g fresh b f (least (g .words) (g .height) e)
   unfolding growth
   growth-grows some more = rw (live-some (size g b f) some, lt-ltb (span (g .words) (root g b f % g .words)) e more)
 
-  pub growth-empty : size g b f ≡ 0 → growth g fresh b f e ≡ plan [] 0
+  growth-empty : size g b f ≡ 0 → growth g fresh b f e ≡ plan [] 0
   unfolding growth live
   growth-empty z = rw z
 
-  pub growth-spanned : e ≤ span (g .words) (root g b f % g .words) → growth g fresh b f e ≡ plan [] 0
+  growth-spanned : e ≤ span (g .words) (root g b f % g .words) → growth g fresh b f e ≡ plan [] 0
   unfolding growth
   growth-spanned l = rw (le-ltb (span (g .words) (root g b f % g .words)) e l, and-false)
+
+  -- so what holds where the file is empty or the tree spans e, and where it grows, holds of growth
+  pub growth-either : (P : Plan → Type 0) → ((0 < size g b f → e ≤ span (g .words) (root g b f % g .words)) → P (plan [] 0))
+      → (0 < size g b f → span (g .words) (root g b f % g .words) < e → P (growthTo g fresh b f (least (g .words) (g .height) e))) → P (growth g fresh b f e)
+  growth-either P stays grows = elim (split (size g b f) 0) [
+    | inl z ↦ let none : size g b f ≡ 0 = omega arith in rw (growth-empty none) (stays (λ l. absurd (omega arith)))
+    | inr l ↦ elim (split e (span (g .words) (root g b f % g .words))) [
+      | inl u ↦ rw (growth-spanned u) (stays (λ z. u))
+      | inr m ↦ rw (growth-grows l m) (grows l m)
+    ]
+  ]
 
 module _ (g : Layout) (fit : Fits g) (fresh : ℕ → ℕ) (b : List ℕ) (f h : ℕ) where
   pub growth-takes : f < files g → Takes g b fresh 0 (growthTo g fresh b f h .taken) (growthStep g fresh b f h)
@@ -238,6 +246,13 @@ module _ (g : Layout) (fit : Fits g) (b : List ℕ) (t : T (accepted g b)) (f : 
     pub growth-held : held (g .words) fresh (committed b (growthStep g fresh b f h)) ps 0
     unfolding step store committed done c₁ value
     growth-held = held-done
+
+    -- a walk within the old span ends where it ended
+    pub growth-walks : (i : ℕ) → i < span (g .words) (root g b f % g .words) → walkTo g (committed b (growthStep g fresh b f h)) f i ≡ walkTo g b f i
+    unfolding step store committed done c₁ value walkTo rootWalk
+    growth-walks i l =
+        let wider : i < span (g .words) h = omega (arith, span-mono (g .words) pos (root g b f % g .words) h higher) in
+        rw (height-done, ← size-done, lt-ltb i (span (g .words) h) wider, lt-ltb i (span (g .words) (root g b f % g .words)) l) (tree-grown .walks i l)
 
     -- the live blocks are those of b and at most those of the levels
     counts-done : (q : ℕ) → occ q (liveBlocks g done) ≤ occ q (liveBlocks g b) + used fresh q 0 (length ps)

@@ -300,3 +300,21 @@ module _ (g : Layout) (fit : Fits g) (b : List ℕ) (t : T (accepted g b)) (f : 
     within = rw commit-block (ok .inode);
     outcome = outcome;
   }
+
+  -- ---- The board that it leaves
+
+  pub leaf-held : held (g .words) fresh (committed b (leafStep g fresh b f o new c)) ps c
+  unfolding step store committed b₂ c₁
+  leaf-held = tree-held
+
+  pub leaf-height : root g (committed b (leafStep g fresh b f o new c)) f % g .words ≡ root g b f % g .words
+  unfolding step store committed b₂ c₁
+  leaf-height = height-new
+
+  pub leaf-block : root g (committed b (leafStep g fresh b f o new c)) f / g .words ≡ fresh (c + length ps - 1)
+  unfolding step store committed b₂ c₁
+  leaf-block = block-new
+
+  pub leaf-size : size g (committed b (leafStep g fresh b f o new c)) f ≡ m
+  unfolding step store committed b₂ c₁
+  leaf-size = size-new

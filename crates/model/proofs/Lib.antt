@@ -19,6 +19,7 @@ pub mod Splice
 pub mod Paths
 pub mod Changed
 pub mod Built
+pub mod PastTree
 pub mod InPlaceStores
 pub mod Tailed
 pub mod Descent
@@ -52,6 +53,7 @@ pub mod Plans
 -- The rules of specs/Claims.antt
 pub mod Rules
 pub mod TakenBlocks
+pub mod PastEnd
 pub mod FormatCut
 -- The marked examples by computation
 pub mod Computing

@@ -13,30 +13,21 @@ use Rattle.model.specs.Tree.{live, span, link}
 use Rattle.model.specs.Fresh.{partLength, touched, freshNeed, freshBefore, need}
 use Rattle.model.proofs.Cases.{either}
 use Rattle.model.proofs.Sums.{sum-cong, sum-mono}
-
-live-pos : (n : ℕ) → 0 < n → live n ≡ true
-unfolding live
-live-pos zero l = absurd (omega arith)
-live-pos (suc n) l = refl
-
-live-none : (n : ℕ) → n ≡ 0 → live n ≡ false
-unfolding live
-live-none zero e = refl
-live-none (suc n) e = absurd (omega arith)
+use Rattle.model.proofs.Trees.{live-some, live-none}
 
 module _ (W : ℕ) where
   -- ---- The block at the top of a tree
 
   pub touched-new : (h k n o l : ℕ) → 0 < l → touched W h k n o l ≡ true
   unfolding touched
-  touched-new h k n o l some = rw (live-pos l some)
+  touched-new h k n o l some = rw (live-some l some)
 
   -- where o lies past n, also the one with byte n − 1
   pub touched-last : (h k n o l : ℕ) → n < o → 0 < k → 0 < n → n ≤ span W h → touched W h k n o l ≡ true
   unfolding touched
   touched-last h k n o l past there some fits = elim (either (live l)) [
     | inl e ↦ rw e
-    | inr e ↦ rw (e, lt-ltb n o past, live-pos k there, live-pos n some, le-leb n (span W h) fits)
+    | inr e ↦ rw (e, lt-ltb n o past, live-some k there, live-some n some, le-leb n (span W h) fits)
   ]
 
   -- and no other: nothing is written, and o lies within, or the block does not exist, or isn't live
@@ -55,7 +46,7 @@ module _ (W : ℕ) where
   -- what is asked last
   pub touched-span : (h k n o l : ℕ) → l ≡ 0 → n < o → 0 < k → 0 < n → touched W h k n o l ≡ leb n (span W h)
   unfolding touched
-  touched-span h k n o l none past there some = rw (live-none l none, lt-ltb n o past, live-pos k there, live-pos n some)
+  touched-span h k n o l none past there some = rw (live-none l none, lt-ltb n o past, live-some k there, live-some n some)
 
   pub untouched-part : (h k n o l : ℕ) → touched W h k n o l ≡ false → l ≡ 0
   unfolding touched live

@@ -31,7 +31,7 @@ use Rattle.model.proofs.Steps.{committed}
 use Rattle.model.proofs.GoodSteps.{GoodStep, GoodSteps}
 use Rattle.model.proofs.Taking.{Takes, blocksOf, takes-blocks, steps-blocks, in-place-live}
 use Rattle.model.proofs.SizeWays.{shorten-good, lengthen-empty-good, lengthen-good}
-use Rattle.model.proofs.GrowthWay.{growthStep, growth-performed, growth-takes, growth-counts, growth-grows, growth-empty, growth-spanned, growth-good, growth-size, growth-reaches, growth-supply}
+use Rattle.model.proofs.GrowthWay.{growthStep, growth-performed, growth-takes, growth-counts, growth-either, growth-good, growth-size, growth-reaches, growth-supply}
 use Rattle.model.proofs.Ways.{length-contents, rewritten, lengthened, spliced-cuts, spliced-lengthens, OneStep, way-good, taken-from}
 
 -- ---- Good plans
@@ -155,7 +155,7 @@ module _ (g : Layout) (fit : Fits g) (b : List ℕ) (t : T (accepted g b)) (f : 
 
   module _ (new : List ℕ) (some : 0 < length new) (small : Small new) (most : o + length new ≤ greatest g) where
     -- growth p, then the way that follows on the grown board
-    abbrev after : Plan → Plan
+    abbrev pub after : Plan → Plan
     after p = let grown : List ℕ = performed b (concat (planEpochs (p .steps))) in afterwards p (chosenWay g fresh grown f (singleBlock g grown f o (o + length new)) o new (p .taken))
 
     -- the way on board c, once k fresh blocks are taken
@@ -197,14 +197,8 @@ module _ (g : Layout) (fit : Fits g) (b : List ℕ) (t : T (accepted g b)) (f : 
         two-plan g fit b f wanted g-step (p .taken) first (growth-takes g fit fresh b f (least (g .words) (g .height) e) f-lt)
         (growth-counts g fit b t f f-lt l fresh lim (supply-lowest g b) e most more enough) (way grown (p .taken)) w (taken-from g fresh grown f (singleBlock g grown f o e) o new (p .taken))
 
-    pub write-some : Wanted (after (growth g fresh b f (o + length new)))
-    write-some = elim (split (size g b f) 0) [
-      | inl z ↦ let e : size g b f ≡ 0 = omega arith in rw (growth-empty g fresh b f (o + length new) e) (no-growth (λ l. absurd (omega arith)))
-      | inr l ↦ elim (split (o + length new) (span (g .words) (root g b f % g .words))) [
-        | inl u ↦ rw (growth-spanned g fresh b f (o + length new) u) (no-growth (λ z. u))
-        | inr m ↦ rw (growth-grows g fresh b f (o + length new) l m) (grows l m)
-      ]
-    ]
+    write-some : Wanted (after (growth g fresh b f (o + length new)))
+    write-some = growth-either g fresh b f (o + length new) (λ p. Wanted (after p)) no-growth grows
 
   pub write-good : (new : List ℕ) → Small new → o + length new ≤ greatest g → writePlan g (lowest g b) b f o new .taken ≤ length (free g b)
       → GoodPlan g b f (overwritten o new (contents g b f)) (writePlan g (lowest g b) b f o new)

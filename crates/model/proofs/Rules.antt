@@ -162,21 +162,25 @@ after-refused : (c : Change) (before : List ℕ) {a : Answer} {f : Fault} → a 
 unfolding after unlessRefused
 after-refused c before e = rw e
 
+-- what holds of a write that no fault turns away
+pub write-passed : (g : Layout) (b : List ℕ) (f o : ℕ) (new : List ℕ) (p : Plan) → All Passed (writeFaults g b f o new p)
+    → (f < files g) × (o + length new ≤ greatest g) × (p .taken ≤ length (free g b))
+unfolding writeFaults All
+write-passed g b f o new p h =
+    let own : Faults = (End, ltb (greatest g) (o + length new)) ∷ (FreeBlocks, ltb (length (free g b)) (p .taken)) ∷ [] in
+    let rest : All Passed own = all-right Passed (fileFaults g b f) own h in
+    (file-passed g b f (all-left Passed (fileFaults g b f) own h), ltb-false (greatest g) (o + length new) (rest .0), ltb-false (length (free g b)) (p .taken) (rest .1 .0))
+
 -- every call is done by good steps or refused, and without a plan then
 pub call-either : (g : Layout) → Fits g → (b : List ℕ) → T (accepted g b) → (c : Change) (slice : List ℕ)
     → let p : Planned = called g b c slice in
     Doing g b c p ⊎ Refusing p
-unfolding called write setLength writeFaults fileOf altered planFor All
+unfolding called write setLength fileOf altered planFor All
 call-either g fit b t (writing f o new) slice =
     let q : Plan = writePlan g (lowest g b) b f o (new .values) in
-    let e : ℕ = o + length (new .values) in
-    let own : Faults = (End, ltb (greatest g) e) ∷ (FreeBlocks, ltb (length (free g b)) (q .taken)) ∷ [] in
-    doing-either g b (writing f o new) (fileFaults g b f ++ own) slice (λ h.
-    let file : f < files g = file-passed g b f (all-left Passed (fileFaults g b f) own h) in
-    let rest : All Passed own = all-right Passed (fileFaults g b f) own h in (
-      file,
-      write-good g fit b t f file o (new .values) (bytes-small (new .values) (new .small)) (ltb-false (greatest g) e (rest .0)) (ltb-false (length (free g b)) (q .taken) (rest .1 .0)),
-    ))
+    doing-either g b (writing f o new) (writeFaults g b f o (new .values) q) slice (λ h.
+    let ok = write-passed g b f o (new .values) q h in
+    (ok .0, write-good g fit b t f (ok .0) o (new .values) (bytes-small (new .values) (new .small)) (ok .1) (ok .2)))
 call-either g fit b t (lengthTo f n) slice =
     let own : Faults = (End, ltb (greatest g) n) ∷ [] in
     doing-either g b (lengthTo f n) (fileFaults g b f ++ own) slice (λ h.

@@ -22,12 +22,12 @@ use Rattle.model.proofs.Cases.{decide, or-right, some-at}
 use Rattle.model.proofs.Counting.{occ, one-same, one-other, one-most}
 use Rattle.model.proofs.Spans.{least-within, least-reaches}
 use Rattle.model.proofs.Perform.{All, all-append, address-block}
-use Rattle.model.proofs.Addresses.{addresses, addresses-away, Stands, all-map, all-left, all-right, occ-addresses-append, stored-once, held-of-all}
+use Rattle.model.proofs.Addresses.{addresses, addresses-away, Stands, all-map, all-left, all-right, occ-addresses-append, stored-once, stands-set, held-of-all}
 use Rattle.model.proofs.Trees.{sound-null}
 use Rattle.model.proofs.Agree.{agree-away, agree-refl}
 use Rattle.model.proofs.Splice.{Small, splice-none, past-span}
 use Rattle.model.proofs.Changed.{Changed, changed-to}
-use Rattle.model.proofs.Built.{used, length-build-null, build-null-changed}
+use Rattle.model.proofs.Built.{held, used, length-build-null, build-null-changed}
 use Rattle.model.proofs.InPlaceStores.{in-place-hidden, in-place-once}
 use Rattle.model.proofs.Tailed.{zeros-replicate, splice-zeros, hole-changed, length-tail, tail-changed, length-changed}
 use Rattle.model.proofs.Shrunk.{shrink-changed}
@@ -355,23 +355,50 @@ module _ (g : Layout) (fit : Fits g) (b : List ℕ) (t : T (accepted g b)) (f : 
         Held : Store → Type 0
         Held s = getD (performed b first-epoch) (s .at) 0 ≡ s .value
 
+        -- the board after the epoch has the pages, and a root that leads to them
+        all-stand : Stands (performed b first-epoch) first-epoch
+        all-stand = stands first-epoch first-hidden first-once
+
+        root-is : root g (performed b first-epoch) f ≡ hook
+        unfolding Held All store
+        root-is = root-stored first-epoch first-hidden hook (all-right Held (stored (g .words) fresh pages c) (store (rootAddress g b f) hook ∷ []) all-stand .0)
+
+        pages-stand : Stands (performed b first-epoch) (stored (g .words) fresh pages c)
+        unfolding Held
+        pages-stand = all-left Held (stored (g .words) fresh pages c) (store (rootAddress g b f) hook ∷ []) all-stand
+
+        sized : Sized first-epoch first-hidden first-once h 0 o (o + length new) new (λ q. used fresh q c (need (g .words) h o (length new)))
+        unfolding greatest
+        sized = record {
+          old = λ live. absurd (omega arith);
+          height = ap (λ (x : ℕ). x % g .words) root-is ∙ hook-low;
+          low = least-within (g .words) pos (g .height) (o + length new);
+          most = most;
+          past = past-span o new (span (g .words) h) (o + length new) (omega (arith, least-reaches (g .words) pos (g .height) (o + length new) most));
+          change = rw (ap (λ (x : ℕ). x / g .words) root-is ∙ hook-block, empty) (build-null-changed (g .words) pos b fresh (performed b first-epoch) lim (supply .nonzero) (blockCount g b - 1) (supply .below)
+              h o new c (o + length new) filled (rw (← first-taken) room) small (held-of-all (g .words) fresh (performed b first-epoch) pages c pages-stand) (λ i u v w. omega arith));
+          fine = rw (sound-null (g .words) b (blockCount g b - 1) h (size g b f)) tt;
+          spare = λ q. rw (← first-taken) (supply-once g b fresh c lim supply (ok .once) (length pages) room q);
+        }
+
         pub empty-tail-good : GoodStep g b f (step first-epoch (sizeAddress g b f) (o + length new)) (spliced g b f o new (o + length new))
-        unfolding Held All store greatest
-        empty-tail-good =
-            let all-stand : Stands (performed b first-epoch) first-epoch = stands first-epoch first-hidden first-once in
-            let top : ℕ = fresh (c + need (g .words) h o (length new) - 1) in
-            let root-is : root g (performed b first-epoch) f ≡ hook = root-stored first-epoch first-hidden hook
-            (all-right Held (stored (g .words) fresh pages c) (store (rootAddress g b f) hook ∷ []) all-stand .0) in
-            size-good first-epoch first-hidden first-once h 0 o (o + length new) new (λ q. used fresh q c (need (g .words) h o (length new))) (record {
-              old = λ live. absurd (omega arith);
-              height = ap (λ (x : ℕ). x % g .words) root-is ∙ hook-low;
-              low = least-within (g .words) pos (g .height) (o + length new);
-              most = most;
-              past = past-span o new (span (g .words) h) (o + length new) (omega (arith, least-reaches (g .words) pos (g .height) (o + length new) most));
-              change = rw (ap (λ (x : ℕ). x / g .words) root-is ∙ hook-block, empty) (build-null-changed (g .words) pos b fresh (performed b first-epoch) lim (supply .nonzero) (blockCount g b - 1) (supply .below)
-                  h o new c (o + length new) filled (rw (← first-taken) room) small
-                  (held-of-all (g .words) fresh (performed b first-epoch) pages c (all-left Held (stored (g .words) fresh pages c) (store (rootAddress g b f) hook ∷ []) all-stand))
-                  (λ i u v w. omega arith));
-              fine = rw (sound-null (g .words) b (blockCount g b - 1) h (size g b f)) tt;
-              spare = λ q. rw (← first-taken) (supply-once g b fresh c lim supply (ok .once) (length pages) room q);
-            })
+        empty-tail-good = size-good first-epoch first-hidden first-once h 0 o (o + length new) new (λ q. used fresh q c (need (g .words) h o (length new))) sized
+
+        -- ---- The board that it leaves
+
+        empty-root : root g (committed b (step first-epoch (sizeAddress g b f) (o + length new))) f ≡ hook
+        unfolding step store committed
+        empty-root = sym (root-kept first-epoch first-hidden first-once h 0 o (o + length new) new (λ q. used fresh q c (need (g .words) h o (length new))) sized) ∙ root-is
+
+        pub empty-height : root g (committed b (step first-epoch (sizeAddress g b f) (o + length new))) f % g .words ≡ h
+        empty-height = ap (λ (x : ℕ). x % g .words) empty-root ∙ hook-low
+
+        pub empty-block : root g (committed b (step first-epoch (sizeAddress g b f) (o + length new))) f / g .words ≡ fresh (c + need (g .words) h o (length new) - 1)
+        empty-block = ap (λ (x : ℕ). x / g .words) empty-root ∙ hook-block
+
+        -- the size stands in the leaf, which is no fresh block
+        pub empty-held : held (g .words) fresh (committed b (step first-epoch (sizeAddress g b f) (o + length new))) pages c
+        unfolding step store committed
+        empty-held = held-of-all (g .words) fresh (set (performed b first-epoch) (sizeAddress g b f) (o + length new)) pages c
+            (stands-set (performed b first-epoch) (stored (g .words) fresh pages c) (sizeAddress g b f) (o + length new)
+            (stored-not-live g b fresh c lim supply pages room (sizeAddress g b f) (rw (size-block g fit b f) (leaf-live g b (f / g .inodes) (leaf-of g fit f f-lt)))) pages-stand)

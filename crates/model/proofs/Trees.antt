@@ -2,16 +2,27 @@
 -- lies beneath it. Code that tests n, k and h in turn is proved from these laws.
 use mathlib.Core.Path.{_≡_, refl, sym}
 use mathlib.Core.Logic.{_≢_}
-use mathlib.Core.Bool.{Bool, true, _&&_, and-true}
+use mathlib.Core.Bool.{Bool, true, false, _&&_, and-true}
 use mathlib.Core.List.{List, [], _∷_}
-use Prim.Native.Nat.{ℕ, zero, suc, _-_, _*_, _/_, _%_}
+use Prim.Native.Nat.{ℕ, zero, suc, _-_, _*_, _/_, _%_, _<_}
+use native.Mathlib.Omega.{arith}
 use native.Mathlib.Nat.{zero-sub, zero-div}
 use native.Mathlib.Numerals.{sub-one}
 use lib.Dec.{ltb}
 use Rattle.model.specs.declared.WalkEnd.the-variants.{Block, Hole}
 use Rattle.model.specs.Lists.{every, joined, sum}
-use Rattle.model.specs.Tree.{ending, span, aligned, cell, link, walk, blocks, sound}
+use Rattle.model.specs.Tree.{live, ending, span, aligned, cell, link, walk, blocks, sound}
 use Rattle.model.specs.Lister.{dataBlocks}
+
+pub live-some : (n : ℕ) → 0 < n → live n ≡ true
+unfolding live
+live-some zero l = absurd (omega arith)
+live-some (suc n) l = refl
+
+pub live-none : (n : ℕ) → n ≡ 0 → live n ≡ false
+unfolding live
+live-none zero e = refl
+live-none (suc n) e = absurd (omega arith)
 
 -- child j of block k, where children have height h
 module _ (W : ℕ) (b : List ℕ) (h k n j : ℕ) where

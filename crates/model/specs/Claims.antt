@@ -2,8 +2,8 @@
 use mathlib.Core.Path.{_≡_}
 use mathlib.Core.Logic.{_≢_, _⊎_, _↔_}
 use mathlib.Core.Bool.{Bool, false, _&&_}
-use mathlib.Core.List.{List, [], map}
-use Prim.Native.Nat.{ℕ, suc, _+_, _-_, _*_, _/_, _%_, _≤_, _<_}
+use mathlib.Core.List.{List, [], _∷_, map}
+use Prim.Native.Nat.{ℕ, zero, suc, _+_, _-_, _*_, _/_, _%_, _≤_, _<_}
 use lib.ListN.{length, getD, take, drop}
 use lib.Dec.{T, leb}
 use Rattle.model.specs.declared.Answer.the-variants.{Refused}
@@ -11,13 +11,14 @@ use Rattle.model.specs.declared.Fault.the-variants.{Trailer}
 use Rattle.model.specs.Lists.{all, member, distinct}
 use Rattle.model.specs.Words.{byteOf, Bytes}
 use Rattle.model.specs.Layout.{Layout, Fits, files}
-use Rattle.model.specs.Tree.{span}
-use Rattle.model.specs.Board.{blockCount, trailer, walkTo, contents, liveBlocks, free, inRange, accepted, wordCountSound}
+use Rattle.model.specs.Tree.{span, cell, link}
+use Rattle.model.specs.Board.{blockCount, trailer, rootHeight, rootBlock, size, walkTo, contents, liveBlocks, free, inRange, accepted, wordCountSound}
 use Rattle.model.specs.Store.{Store, store, isBarrier, performed, stores, epochs}
 use Rattle.model.specs.Hidden.{hidden}
-use Rattle.model.specs.Fresh.{dataPage, pointerPage}
+use Rattle.model.specs.Fresh.{partLength, dataPage, pointerPage}
+use Rattle.model.specs.InPlace.{atBlock}
 use Rattle.model.specs.Calls.{checkAnswer, freeCountAnswer, sizeAnswer, readAnswer, readBuffer, Planned, format, performAnswer}
-use Rattle.model.specs.Cut.{Change, fileOf, called, planFor, planOf, after, Cut, chosen, Names, standing, lastArrived}
+use Rattle.model.specs.Cut.{Change, writing, fileOf, called, planFor, planOf, after, Cut, chosen, Names, standing, lastArrived}
 use Rattle.model.specs.Safe.{left, SafePlan, decided}
 
 -- ---- Plans
@@ -136,6 +137,38 @@ abbrev pub AccuracyRule : Type 0
 AccuracyRule = (g : Layout) → Fits g → (b : List ℕ) → T (accepted g b) → (c : Change) (slice : List ℕ)
     → let p : Planned = called g b c slice in
     Altered g b (performed b (stores (planOf p))) (fileOf c) (after c (p .answer) (contents g b (fileOf c)))
+
+-- ---- Writing past the end
+
+module _ (W : ℕ) (b : List ℕ) where
+  -- the blocks on the way to byte i of the tree (h, k), from the top, *as far as its blocks exist*
+  unfoldable pub path : ℕ → ℕ → ℕ → List ℕ
+  path zero zero i = []
+  path zero (suc k) i = suc k ∷ []
+  path (suc h) zero i = []
+  path (suc h) (suc k) i = suc k ∷ path h (cell W b (suc k) (i / span W h) / W) (i % span W h)
+
+  -- *a pointer* of the tree *whose span starts at s or later and has no written byte beneath it is null*, l bytes being written at o
+  unfoldable pub NullPast : ℕ → ℕ → ℕ → ℕ → ℕ → Type 0
+  NullPast zero k s o l = Unit
+  NullPast (suc h) k s o l = (j : ℕ) → j < W
+      → (s ≤ j * span W h → partLength (span W h) j o l ≡ 0 → link W b k j ≡ 0)
+      × NullPast h (link W b k j / W) (s - j * span W h) (o - j * span W h) (partLength (span W h) j o l)
+
+-- on b′ file f has been written past its end on b, s bytes: l bytes at o, with the blocks `fresh` taken
+pub record PastEnd (g : Layout) (b b′ : List ℕ) (f o l : ℕ) (fresh : List ℕ) : Type 0 where
+  -- *the path to byte s − 1 is made fresh*
+  pub copied : 0 < size g b f → T (all (λ k. member k fresh) (path (g .words) b′ (rootHeight g b′ f) (rootBlock g b′ f) (size g b f - 1)))
+  -- and if it led to a data block, it still does: *the data block there is always copied*
+  pub arrives : T (atBlock (walkTo g b f (size g b f - 1))) → T (atBlock (walkTo g b′ f (size g b f - 1)))
+  -- *holes left null*
+  pub holes : NullPast (g .words) b′ (rootHeight g b′ f) (rootBlock g b′ f) (size g b f) o l
+
+-- every write of some bytes past the end is so, performed whole
+abbrev pub PastEndRule : Type 0
+PastEndRule = (g : Layout) → Fits g → (b : List ℕ) → T (accepted g b) → (f o : ℕ) (new : Bytes) (slice : List ℕ)
+    → let ss : List Store = planOf (called g b (writing f o new) slice) in
+    0 < length ss → size g b f < o → PastEnd g b (performed b (stores ss)) f o (length (new .values)) (take (planFor g b (writing f o new) .taken) (free g b))
 
 -- ---- Format
 

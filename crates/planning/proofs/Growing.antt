@@ -14,7 +14,7 @@ use Rattle.model.specs.Plan.{plan}
 use Rattle.model.specs.Change.{growthTo, growth}
 use Rattle.model.proofs.Cases.{true-right}
 use Rattle.model.proofs.Spans.{least-within, least-above}
-use Rattle.model.proofs.GrowthWay.{live-some}
+use Rattle.model.proofs.Trees.{live-some}
 use Rattle.trees.specs.Trees.{Spanned}
 use Rattle.growing.specs.declared.Count.{Count}
 use Rattle.growing.specs.Planned.{PlanLaid, AddressOf}

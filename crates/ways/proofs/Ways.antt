@@ -18,6 +18,7 @@ use Rattle.model.specs.Plan.{Plan, step, plan, pairs}
 use Rattle.model.specs.Fresh.{Page, freshNeed, stored, freshPointer, build}
 use Rattle.model.specs.InPlace.{atBlock, walkLive, tailNeed, tailPages, inPlace}
 use Rattle.model.specs.Change.{isTail, emptyTail, tail, shadowInside, leafPage, shadowWithLength, chosenWay}
+use Rattle.model.proofs.Trees.{live-some}
 use Rattle.model.proofs.Perform.{address-block, address-place}
 use Rattle.model.proofs.Paths.{touched-new, fresh-pos}
 use Rattle.model.proofs.Built.{length-build, length-build-null}
@@ -179,11 +180,6 @@ with-length-laid {c = c} {free} {f = f} {a = a} {r} {m = m} {t′ = t′} {top =
 
 -- ---- The choice
 
-live-some : (s : ℕ) → (s ≡ 0 → ⊥) → live s ≡ true
-unfolding live
-live-some zero some = absurd (some refl)
-live-some (suc s) some = refl
-
 module _ {b c new free : List ℕ} {f o base t a r s : ℕ} (ready : Ready b c f o new free base t) (i : Inode c f a r s) where
   -- by the root and the size as they are read
   chosen : chosenWay house (taking free) c f Hole o new t
@@ -200,16 +196,16 @@ module _ {b c new free : List ℕ} {f o base t a r s : ℕ} (ready : Ready b c f
     pub chosen-tail : {end : WalkEnd} {k : ℕ} → o ≡ s → end ≡ walkLive 8 c (r % 8) (r / 8) s → end ≡ Block k
         → tail house (taking free) c f (size house c f) (size house c f) new t ≡ chosenWay house (taking free) c f Hole o new t
     unfolding atBlock
-    chosen-tail at-size walk block = sym (rw (chosen, eq-eqb o s at-size, live-some s some, ← walk, block, at-size, ← i .size))
+    chosen-tail at-size walk block = sym (rw (chosen, eq-eqb o s at-size, live-some s (omega (arith, some)), ← walk, block, at-size, ← i .size))
 
     -- the write is past the size, since it has a byte
     pub chosen-hole : {end : WalkEnd} → o ≡ s → end ≡ walkLive 8 c (r % 8) (r / 8) s → end ≡ Hole
         → shadowWithLength house (taking free) c f o new t ≡ chosenWay house (taking free) c f Hole o new t
     unfolding atBlock
-    chosen-hole at-size walk hole = sym (rw (chosen, eq-eqb o s at-size, live-some s some, ← walk, hole, lt-leb (o + length new) s (omega (arith, ready .some))))
+    chosen-hole at-size walk hole = sym (rw (chosen, eq-eqb o s at-size, live-some s (omega (arith, some)), ← walk, hole, lt-leb (o + length new) s (omega (arith, ready .some))))
 
     pub chosen-inside : (o ≡ s → ⊥) → o + length new ≤ s → shadowInside house (taking free) c f o new t ≡ chosenWay house (taking free) c f Hole o new t
-    chosen-inside before l = sym (rw (chosen, live-some s some, ne-eqb o s before, le-leb (o + length new) s l))
+    chosen-inside before l = sym (rw (chosen, live-some s (omega (arith, some)), ne-eqb o s before, le-leb (o + length new) s l))
 
     pub chosen-past : (o ≡ s → ⊥) → s < o + length new → shadowWithLength house (taking free) c f o new t ≡ chosenWay house (taking free) c f Hole o new t
-    chosen-past before l = sym (rw (chosen, live-some s some, ne-eqb o s before, lt-leb (o + length new) s l))
+    chosen-past before l = sym (rw (chosen, live-some s (omega (arith, some)), ne-eqb o s before, lt-leb (o + length new) s l))

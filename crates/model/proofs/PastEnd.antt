@@ -1,0 +1,232 @@
+-- Writing past the end: whichever way such a write goes, and with growth before it, the path to the last byte before it is fresh and holes are null.
+use mathlib.Core.Path.{_≡_, refl, sym, ap, _∙_, subst}
+use mathlib.Core.Logic.{inl, inr}
+use mathlib.Core.List.{List, [], _∷_}
+use Prim.Native.Nat.{ℕ, zero, suc, _+_, _-_, _/_, _%_, _≤_, _<_}
+use native.Mathlib.Omega.{arith}
+use lib.ListN.{length, getD, take}
+use lib.Dec.{T, eqb}
+use borrow.Author.Tests.{lt-ltb, le-ltb, lt-leb, eq-eqb, ne-eqb}
+use Rattle.model.specs.declared.WalkEnd.the-variants.{Hole}
+use Rattle.model.specs.Lists.{concat, member}
+use Rattle.model.specs.Layout.{Layout, Fits, files}
+use Rattle.model.specs.Tree.{live, span, least}
+use Rattle.model.specs.Board.{rootWalk, greatest, root, size, walkTo, contents, free, accepted}
+use Rattle.model.specs.Store.{performed, stores, fenced}
+use Rattle.model.specs.Plan.{Plan, plan, Step, planEpochs, afterwards, pairs}
+use Rattle.model.specs.Fresh.{freshNeed, need, build}
+use Rattle.model.specs.InPlace.{atBlock}
+use Rattle.model.specs.Change.{growthTo, growth, singleBlock, isTail, emptyTail, tail, shadowWithLength, chosenWay, writePlan}
+use Rattle.model.specs.Calls.{lowest, writeFaults, write}
+use Rattle.model.specs.Cut.{called, planFor, overwritten}
+use Rattle.model.specs.Claims.{PastEnd, PastEndRule}
+use Rattle.model.proofs.Cases.{split, or-left, or-right}
+use Rattle.model.proofs.Epochs.{planned-either}
+use Rattle.model.proofs.Trees.{live-some, walk-dead}
+use Rattle.model.proofs.Splice.{Small, bytes-small}
+use Rattle.model.proofs.Paths.{touched-new, fresh-quiet}
+use Rattle.model.proofs.Built.{length-build, length-build-null}
+use Rattle.model.proofs.PastTree.{Laid, laid-holes, laid-path, laid-arrives}
+use Rattle.model.proofs.Shown.{words-pos}
+use Rattle.model.proofs.Supplied.{Supply, supply-lowest}
+use Rattle.model.proofs.Steps.{committed, allCommitted, performed-steps}
+use Rattle.model.proofs.SizeWays.{empty-height, empty-block, empty-held}
+use Rattle.model.proofs.LeafWay.{treePages, leafStep, leaf-held, leaf-height, leaf-block, leaf-size}
+use Rattle.model.proofs.GrowthWay.{growthStep, growth-performed, growth-either, growth-good, growth-size, growth-reaches, growth-supply, growth-walks}
+use Rattle.model.proofs.Ways.{taken-from}
+use Rattle.model.proofs.Plans.{after, write-good}
+use Rattle.model.proofs.Rules.{write-passed, plan-stores}
+
+-- ---- Which way it goes
+
+module _ (g : Layout) (fresh : ℕ → ℕ) (b : List ℕ) (f o : ℕ) (new : List ℕ) (c : ℕ) (past : size g b f < o) where
+  abbrev way : Plan
+  way = chosenWay g fresh b f (singleBlock g b f o (o + length new)) o new c
+
+  -- no single word
+  none-single : 0 < length new → singleBlock g b f o (o + length new) ≡ Hole
+  unfolding singleBlock
+  none-single some = rw (lt-leb (o + length new) (size g b f) (omega arith))
+
+  -- *with size 0 it goes the tail way*
+  empty-way : size g b f ≡ 0 → 0 < length new → way ≡ emptyTail g fresh b f o new c
+  unfolding chosenWay isTail tail live
+  empty-way z some = rw (none-single some) (rw z)
+
+  -- *otherwise as shadow with length*
+  leaf-way : 0 < size g b f → 0 < length new → way ≡ shadowWithLength g fresh b f o new c
+  unfolding chosenWay isTail
+  leaf-way l some = rw (none-single some) (rw (live-some (size g b f) l, ne-eqb o (size g b f) (omega arith)) (rw (lt-leb (o + length new) (size g b f) (omega arith))))
+
+-- ---- What it leaves
+
+-- *a byte past the span is in a hole*
+beyond-hole : (g : Layout) (b : List ℕ) (f i : ℕ) → span (g .words) (root g b f % g .words) ≤ i → walkTo g b f i ≡ Hole
+unfolding walkTo rootWalk
+beyond-hole g b f i l = rw (le-ltb i (span (g .words) (root g b f % g .words)) l)
+
+module _ (g : Layout) (fit : Fits g) (b : List ℕ) (t : T (accepted g b)) (f : ℕ) (f-lt : f < files g) (o : ℕ) (new : List ℕ) (some : 0 < length new) (small : Small new)
+    (most : o + length new ≤ greatest g) (reach : 0 < size g b f → o + length new ≤ span (g .words) (root g b f % g .words))
+    (fresh : ℕ → ℕ) (c lim : ℕ) (supply : Supply g b fresh c lim) (past : size g b f < o) (taken : List ℕ) where
+  abbrev W : ℕ
+  W = g .words
+
+  pos : 0 < W
+  pos = words-pos g fit
+
+  -- on the board that a plan of one step leaves, whose fresh blocks are among those taken
+  abbrev Past : Plan → Type 0
+  Past p = p .taken ≤ lim → ((i : ℕ) → i < p .taken → T (member (fresh i) taken)) → PastEnd g b (allCommitted b (p .steps)) f o (length new) taken
+
+  empty-hole : size g b f ≡ 0 → (i : ℕ) → walkTo g b f i ≡ Hole
+  unfolding walkTo rootWalk
+  empty-hole z i = elim (split (span W (root g b f % W)) i) [
+    | inl beyond ↦ beyond-hole g b f i beyond
+    | inr within ↦ rw (lt-ltb i (span W (root g b f % W)) within, z, walk-dead W b (root g b f % W) (root g b f / W) i)
+  ]
+
+  past-empty : size g b f ≡ 0 → Past (emptyTail g fresh b f o new c)
+  unfolding emptyTail plan allCommitted atBlock
+  past-empty z room among =
+      let h : ℕ = least W (g .height) (o + length new) in
+      let count : freshNeed W b h 0 0 o (length new) ≡ need W h o (length new) = fresh-quiet W b h 0 0 o (length new) (inl refl) in
+      let len : length (build W fresh b h 0 0 o new c) ≡ need W h o (length new) = length-build-null W pos b fresh h 0 o new c in
+      let high = empty-height g fit b t f f-lt new some small fresh c lim supply z o most room in
+      let block = empty-block g fit b t f f-lt new some small fresh c lim supply z o most room in
+      record {
+        copied = λ l. absurd (omega arith);
+        arrives = λ x. absurd (rw (empty-hole z (size g b f - 1)) at x);
+        holes = rw (high, block, z, ← count) (laid-holes W pos b fresh _ lim (supply .nonzero) h 0 0 o new c (record {
+          test = touched-new W h 0 0 o (length new) some;
+          room-for = omega (arith, count, len);
+          pages = empty-held g fit b t f f-lt new some small fresh c lim supply z o most room;
+        }) (λ l. absurd (omega arith)));
+      }
+
+  past-leaf : 0 < size g b f → Past (shadowWithLength g fresh b f o new c)
+  unfolding shadowWithLength plan allCommitted walkTo rootWalk
+  past-leaf l room among =
+      let h : ℕ = root g b f % W in
+      let k : ℕ = root g b f / W in
+      let n : ℕ = size g b f in
+      let under : o + length new ≤ span W h = reach l in
+      let len : length (treePages g fresh b f o new c) ≡ freshNeed W b h k n o (length new) = length-build W pos b fresh h k n o new c in
+      let within : n - 1 < span W h = omega arith in
+      let b′ : List ℕ = committed b (leafStep g fresh b f o new c) in
+      let high = leaf-height g fit b t f f-lt o new some small l (omega arith) under most fresh c lim supply room in
+      let block : root g b′ f / W ≡ fresh (c + freshNeed W b h k n o (length new) - 1) =
+      leaf-block g fit b t f f-lt o new some small l (omega arith) under most fresh c lim supply room ∙ ap (λ (x : ℕ). fresh (c + x - 1)) len in
+      let now = leaf-size g fit b t f f-lt o new some small l (omega arith) under most fresh c lim supply room in
+      let end : ℕ = c + length (treePages g fresh b f o new c) + 1 in
+      let there : (i : ℕ) → i < end → 0 < fresh i = λ i u. supply .nonzero i (omega arith) in
+      let laid : Laid W pos b fresh b′ end there h k n o new c = record {
+        test = touched-new W h k n o (length new) some;
+        room-for = omega (arith, len);
+        pages = leaf-held g fit b t f f-lt o new some small l (omega arith) under most fresh c lim supply room;
+      } in
+      record {
+        copied = λ z. rw (high, block) (laid-path W pos b fresh b′ end there (λ q. member q taken) among h k n o new c laid l (omega arith) past);
+        arrives = λ x. rw (high, block, now, lt-ltb (n - 1) (span W h) within)
+            (laid-arrives W pos b fresh b′ end there h k n o new c _ laid l (omega arith) past (omega arith) (rw (lt-ltb (n - 1) (span W h) within) at x));
+        holes = rw (high, block) (laid-holes W pos b fresh b′ end there h k n o new c laid (λ z. past));
+      }
+
+  pub way-past : Past (way g fresh b f o new c past)
+  way-past = elim (split (size g b f) 0) [
+    | inl z ↦ let e : size g b f ≡ 0 = omega arith in rw (empty-way g fresh b f o new c past e some) (past-empty e)
+    | inr l ↦ rw (leaf-way g fresh b f o new c past l some) (past-leaf l)
+  ]
+
+-- ---- With growth before it
+
+-- the i-th of a list is among its first n
+member-take : (l : List ℕ) (n i : ℕ) → i < n → i < length l → T (member (getD l i 0) (take n l))
+unfolding member
+member-take [] n i u v = absurd (omega arith)
+member-take (x ∷ l) zero i u v = absurd (omega arith)
+member-take (x ∷ l) (suc n) zero u v = or-left (eqb x x) (member x (take n l)) (rw (eq-eqb x x refl) tt)
+member-take (x ∷ l) (suc n) (suc i) u v = or-right (eqb (getD l i 0) x) (member (getD l i 0) (take n l)) (member-take l n i (omega arith) (omega arith))
+
+-- judged from a board c on which the file has the same size, and walks that end at a block still do
+past-from : (g : Layout) (b c b′ : List ℕ) (f o l : ℕ) (taken : List ℕ) → size g c f ≡ size g b f
+    → ((i : ℕ) → T (atBlock (walkTo g b f i)) → T (atBlock (walkTo g c f i))) → PastEnd g c b′ f o l taken → PastEnd g b b′ f o l taken
+past-from g b c b′ f o l taken e walks p = record {
+  copied = λ u. rw e at (p .copied (rw e u));
+  arrives = λ x. rw e at (p .arrives (rw e (walks (size g b f - 1) x)));
+  holes = rw e at (p .holes);
+}
+
+module _ (g : Layout) (fit : Fits g) (b : List ℕ) (t : T (accepted g b)) (f : ℕ) (f-lt : f < files g) (o : ℕ) (past : size g b f < o) where
+  abbrev fresh : ℕ → ℕ
+  fresh = lowest g b
+
+  abbrev lim : ℕ
+  lim = length (free g b)
+
+  among : (n : ℕ) → n ≤ lim → (i : ℕ) → i < n → T (member (fresh i) (take n (free g b)))
+  unfolding lowest
+  among n le i l = member-take (free g b) n i l (omega arith)
+
+  module _ (new : List ℕ) (some : 0 < length new) (small : Small new) (most : o + length new ≤ greatest g) where
+    abbrev Wanted : Plan → Type 0
+    Wanted p = p .taken ≤ lim → PastEnd g b (allCommitted b (p .steps)) f o (length new) (take (p .taken) (free g b))
+
+    no-growth : (0 < size g b f → o + length new ≤ span (g .words) (root g b f % g .words)) → Wanted (after g fit b t f f-lt o new some small most (plan [] 0))
+    unfolding plan afterwards planEpochs concat performed
+    no-growth reach room = way-past g fit b t f f-lt o new some small most reach fresh 0 lim (supply-lowest g b) past _ room (among _ room)
+
+    -- growth keeps walks that end at a block
+    walks-kept : 0 < size g b f → span (g .words) (root g b f % g .words) < o + length new → growthTo g fresh b f (least (g .words) (g .height) (o + length new)) .taken ≤ lim
+        → (i : ℕ) → T (atBlock (walkTo g b f i)) → T (atBlock (walkTo g (committed b (growthStep g fresh b f (least (g .words) (g .height) (o + length new)))) f i))
+    unfolding atBlock
+    walks-kept l more enough i x = elim (split (span (g .words) (root g b f % g .words)) i) [
+      | inl beyond ↦ absurd (rw (beyond-hole g b f i beyond) at x)
+      | inr within ↦ rw (growth-walks g fit b t f f-lt l fresh lim (supply-lowest g b) (o + length new) most more enough i within) x
+    ]
+
+    grows : 0 < size g b f → span (g .words) (root g b f % g .words) < o + length new → Wanted (after g fit b t f f-lt o new some small most (growthTo g fresh b f (least (g .words) (g .height) (o + length new))))
+    unfolding growthTo plan afterwards allCommitted
+    grows l more room =
+        let e : ℕ = o + length new in
+        let p : Plan = growthTo g fresh b f (least (g .words) (g .height) e) in
+        let g-step : Step = growthStep g fresh b f (least (g .words) (g .height) e) in
+        let grown : List ℕ = performed b (concat (planEpochs (p .steps))) in
+        let enough : p .taken ≤ lim = omega (arith, room, taken-from g fresh grown f (singleBlock g grown f o e) o new (p .taken)) in
+        let lent = supply-lowest g b in
+        let c : List ℕ = committed b g-step in
+        let sizes : size g c f ≡ size g b f = growth-size g fit b t f f-lt l fresh lim lent e most more enough in
+        subst (λ (y : List ℕ). let q : Plan = chosenWay g fresh y f (singleBlock g y f o e) o new (p .taken) in
+        q .taken ≤ lim → PastEnd g b (allCommitted c (q .steps)) f o (length new) (take (q .taken) (free g b)))
+        (sym (growth-performed g fresh b f (least (g .words) (g .height) e)))
+        (λ enough′. past-from g b c _ f o (length new) _ sizes (walks-kept l more enough)
+        (way-past g fit c (growth-good g fit b t f f-lt l fresh lim lent e most more enough .outcome .board) f f-lt o new some small most
+        (λ z. growth-reaches g fit b t f f-lt l fresh lim lent e most more enough) fresh (p .taken) lim (growth-supply g fit b t f f-lt l fresh lim lent e most more enough)
+        (rw sizes past) _ enough′ (among _ enough′)))
+        room
+
+    past-some : Wanted (after g fit b t f f-lt o new some small most (growth g fresh b f (o + length new)))
+    past-some = growth-either g fresh b f (o + length new) (λ p. Wanted (after g fit b t f f-lt o new some small most p)) no-growth grows
+
+  -- the plan, whatever is written
+  plan-past : (new : List ℕ) → Small new → o + length new ≤ greatest g → 0 < length (pairs (writePlan g fresh b f o new)) → writePlan g fresh b f o new .taken ≤ lim
+      → PastEnd g b (allCommitted b (writePlan g fresh b f o new .steps)) f o (length new) (take (writePlan g fresh b f o new .taken) (free g b))
+  unfolding writePlan plan pairs fenced planEpochs
+  plan-past [] small most more room = absurd (omega arith)
+  plan-past (x ∷ new) small most more room = past-some (x ∷ new) (omega arith) small most room
+
+-- ---- The rule
+
+pub past-end-rule : PastEndRule
+unfolding called write planFor pairs
+past-end-rule g fit b t f o new slice more past =
+    let q : Plan = writePlan g (lowest g b) b f o (new .values) in
+    elim (planned-either (writeFaults g b f o (new .values) q) (pairs q) slice) [
+      | inl d ↦
+          let ok = write-passed g b f o (new .values) q (d .passed) in
+          let small : Small (new .values) = bytes-small (new .values) (new .small) in
+          let good = write-good g fit b t f (ok .0) o (new .values) small (ok .1) (ok .2) in
+          let whole : performed b (stores (pairs q)) ≡ allCommitted b (q .steps) =
+          ap (performed b) (plan-stores g fit b t f (q .steps) (overwritten o (new .values) (contents g b f)) (good .steps-good)) ∙ performed-steps b (q .steps) in
+          rw (d .plans, whole) (plan-past g fit b t f (ok .0) o past (new .values) small (ok .1) (rw (d .plans) at more) (ok .2))
+      | inr r ↦ absurd (omega (arith, rw (r .plans) at more))
+    ]
