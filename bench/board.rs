@@ -27,7 +27,7 @@ pub type Epochs = Vec<Vec<Store>>;
 /// The bytes of each file.
 pub type Files = Vec<Vec<u8>>;
 
-/// Bytes that a file gets at an offset.
+/// Bytes that a file gets at an offset; with none, the file becomes as long as the offset.
 #[derive(Clone)]
 pub struct Change {
     pub file: u64,
@@ -85,10 +85,13 @@ pub fn accepted(memory: &[u64]) -> Files {
     read(memory).expect("an accepted board")
 }
 
-/// Plans a write and performs the plan; answers the plan's epochs.
+/// Plans a write, or with no bytes a length change, and performs the plan; answers the plan's epochs.
 pub fn write(memory: &mut [u64], change: &Change) -> Epochs {
     let (board, mut plan) = (&mut memory[..BOARD], vec![0; PLAN]);
-    let pairs = done(library::write(board, change.file, change.offset, &change.bytes, &mut plan));
+    let pairs = done(match change.bytes.is_empty() {
+        true => library::set_length(board, change.file, change.offset, &mut plan),
+        false => library::write(board, change.file, change.offset, &change.bytes, &mut plan),
+    });
     done(library::perform(board, &plan, pairs));
     let stores: Vec<Store> = plan.chunks(2).take(pairs as usize).map(|pair| (pair[0], pair[1])).collect();
     stores.split(|store| store.0 == BARRIER).map(|epoch| epoch.to_vec()).collect()

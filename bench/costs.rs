@@ -46,7 +46,7 @@ struct Cost {
 
 fn nothing(_: &mut [u64]) {}
 
-/// The plan of one write; it covers all changes of a file, with the bytes between them.
+/// The plan of one call; it covers all changes of a file, with the bytes between them.
 fn own_plan(memory: &[u64], changes: &[Change]) -> Option<Epochs> {
     let file = changes[0].file;
     if changes.iter().any(|change| change.file != file) {
@@ -82,6 +82,9 @@ fn operations() -> Vec<Operation> {
     let row = |name, transactions| Operation { name, log_entries: ENTRIES, transactions };
     let one = |name, change: &Change| row(name, vec![vec![change.clone()]]);
     let rewrite = |name, count| one(name, &other(PICTURE, 4096, count));
+    // Ten entries are left out: they read 0.
+    let far = entry(ENTRIES + 10);
+    let longer = Change { bytes: Vec::new(), ..far.clone() };
     vec![
         one("one word of the score table", &end[0]),
         one("six bytes of initials across two words", &end[1]),
@@ -94,6 +97,8 @@ fn operations() -> Vec<Operation> {
         rewrite("rewrite of 512 bytes", 512),
         rewrite("rewrite of 4,096 bytes", 4096),
         row("two words 96 bytes apart, together", vec![vec![other(SCORES, 48, 8), other(SCORES, 144, 8)]]),
+        one("24-byte entry 240 bytes past the end of the log", &far),
+        row("the same by a length change and a write", vec![vec![longer], vec![far]]),
     ]
 }
 

@@ -7,6 +7,7 @@
 
 use crate::board::{accepted, after, free, inode, word_of, Change, Epochs, Store, BOARD, SPAN};
 use std::collections::BTreeMap;
+use std::ops::Range;
 
 const COMMIT: usize = BOARD;
 const AREA: usize = 1000;
@@ -57,6 +58,9 @@ impl Transaction<'_> {
         let inode = inode(self.memory, change.file);
         let (size, range) = (self.memory[inode as usize + 1], change.range());
         assert!(range.end <= SPAN[(self.memory[inode as usize] % 8) as usize], "a tree that would have to grow");
+        if range.start > size {
+            self.clear(inode, (self.memory[inode as usize] % 8) as usize, 0, size..range.start);
+        }
         for first in (range.start / 64 * 64..range.end).step_by(64) {
             let whole = range.start <= first && first + 64 <= range.end.min(size);
             let pointer = self.pointer(inode, first, size);
@@ -65,7 +69,8 @@ impl Transaction<'_> {
                 continue;
             }
             let block = self.word(pointer) / 8;
-            let from = first.max(range.start / 8 * 8);
+            // A fresh block is shown from its first byte on.
+            let from = if first < size { first.max(range.start / 8 * 8) } else { first };
             for offset in (from..range.end.min(first + 64)).step_by(8) {
                 let shown = offset.max(range.start) < size;
                 let words = if shown { &mut self.visible } else { &mut self.hidden };
@@ -77,12 +82,41 @@ impl Transaction<'_> {
         }
     }
 
-    /// The address of the pointer to the data block of an offset. A pointer past the size gets a free block.
+    /// Bytes between the size and a place past it are to read 0: words of the last data block, and pointers that lead
+    /// to no byte after the gap. `at` is the pointer to a tree that begins at `first`.
+    fn clear(&mut self, at: u64, height: usize, first: u64, gap: Range<u64>) {
+        if first >= gap.start {
+            if first + SPAN[height] <= gap.end {
+                self.hidden.insert(at, 0);
+            }
+            return;
+        }
+        let block = self.word(at) / 8;
+        assert!(block != 0, "a hole");
+        if height == 0 {
+            for offset in (gap.start / 8 * 8..gap.end.min(first + 64)).step_by(8) {
+                let kept = (1 << (8 * gap.start.saturating_sub(offset))) - 1;
+                let place = 8 * block + (offset - first) / 8;
+                self.hidden.insert(place, self.word(place) & kept);
+            }
+            return;
+        }
+        for j in 0..8 {
+            let child = first + j * SPAN[height - 1];
+            if child < gap.end && gap.start < child + SPAN[height - 1] {
+                self.clear(8 * block + j, height - 1, child, gap.clone());
+            }
+        }
+    }
+
+    /// The address of the pointer to the data block of an offset. A pointer past the size gets a free block, and in it
+    /// the pointers before the offset are null.
     fn pointer(&mut self, inode: u64, offset: u64, size: u64) -> u64 {
         let (mut at, mut first) = (inode, 0);
         let mut height = (self.word(inode) % 8) as usize;
         loop {
-            if first >= size && !self.hidden.contains_key(&at) {
+            let taken = first >= size && !self.hidden.contains_key(&at);
+            if taken {
                 let low = if at == inode { height as u64 } else { 0 };
                 let block = self.fresh();
                 self.hidden.insert(at, 8 * block + low);
@@ -96,6 +130,9 @@ impl Transaction<'_> {
             let child = (offset - first) / SPAN[height];
             at = 8 * block + child;
             first += child * SPAN[height];
+            if taken {
+                self.hidden.extend((8 * block..at).map(|before| (before, 0)));
+            }
         }
     }
 

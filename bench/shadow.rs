@@ -63,10 +63,12 @@ impl Copier<'_> {
         8 * self.tree(file, block, height as usize, 0, size) + height
     }
 
-    /// A copy of a tree that begins at an offset of the file, as far as bytes in it change.
+    /// A copy of a tree that begins at an offset of the file, as far as bytes in it change. Before bytes past the end the
+    /// last bytes are copied too, so that nothing old shows between.
     fn tree(&mut self, file: u64, block: u64, height: usize, first: u64, size: u64) -> u64 {
         let end = first + SPAN[height];
-        let changes = |c: &Change| c.file == file && c.range().start < end && first < c.range().end;
+        let last = |c: &Change| block != 0 && c.offset > size && first < size && size <= end;
+        let changes = |c: &Change| c.file == file && (c.offset < end && first < c.range().end || last(c));
         if !self.changes.iter().any(changes) {
             return block;
         }

@@ -41,7 +41,7 @@ enum montebeech_refusal {
     MONTEBEECH_TRAILER = 2,     /* one of the eight words of the last block is not as it should be */
     MONTEBEECH_DAMAGED = 3,     /* the board is damaged anywhere else, in whichever file */
     MONTEBEECH_FILE_NUMBER = 4, /* file is above 31 */
-    MONTEBEECH_OFFSET = 5,      /* offset is above the file's size */
+    MONTEBEECH_OFFSET = 5,      /* no call answers it any more: an offset may lie past the size */
     MONTEBEECH_END = 6,         /* the write, or the length, ends above 32,768 */
     MONTEBEECH_FREE_BLOCKS = 7, /* fewer blocks are free than the plan takes */
     MONTEBEECH_PLAN_LENGTH = 8, /* plan_len is below two words for each pair */
@@ -89,7 +89,11 @@ int64_t montebeech_words_read(const uint64_t *board, size_t board_len, uint64_t 
  * from, and for no other.
  */
 
-/* Plans a write of bytes_len bytes at offset of a file. Refuses 1 to 8. */
+/*
+ * Plans a write of bytes_len bytes at offset of a file. The offset may lie past the file's size: the bytes between then
+ * read 0, and the call is one change as any other. With bytes_len 0 the plan is empty and the file stays as it is,
+ * wherever the offset lies up to 32,768; above it the call is refused 6. Refuses 1, 2, 3, 4, 6, 7, 8.
+ */
 int64_t montebeech_words_write(const uint64_t *board, size_t board_len, uint64_t file, uint64_t offset,
                                const uint8_t *bytes, size_t bytes_len, uint64_t *plan, size_t plan_len);
 

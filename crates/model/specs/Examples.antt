@@ -4,7 +4,7 @@ use mathlib.Core.List.{List, [], _∷_, _++_}
 use Prim.Native.Nat.{ℕ, suc, _*_}
 use lib.ListN.{length, drop, replicate}
 use lib.Dec.{eqb}
-use Rattle.model.specs.declared.Fault.the-variants.{FreeBlocks, PlanLength}
+use Rattle.model.specs.declared.Fault.the-variants.{End, FreeBlocks, PlanLength}
 use Rattle.model.specs.declared.Answer.{Answer}
 use Rattle.model.specs.declared.Answer.the-variants.{Done, Refused}
 use Rattle.model.specs.Lists.{all}
@@ -180,15 +180,20 @@ E9-rows = row [] (writes 0 (replicate 256 1)) 100 (takes 5 ∷ answers (Done 43)
 unfoldable pub table : List Row
 table = E1-rows ++ E2-rows ++ (E3-row ∷ E4-row ∷ E5-row ∷ E6-row ∷ E7-row ∷ E8-row ∷ []) ++ E9-rows
 
--- ---- Writing past the end: E10's second part, a write of no bytes there, into an empty file, and where the size is at a block's edge
+-- ---- Writing past the end
 
--- *the data block there is always copied, with zeros from s on*
+-- E10's second part: *the data block there is always copied, with zeros from s on*
 unfoldable pub E10-plan : List ℕ
 E10-plan = filled 88 (1124090433 ∷ replicate 7 0) ++ filled 96 (88 ∷ 4 ∷ replicate 6 0) ++ fence ++ (8 ∷ 96 ∷ [])
 
+-- it; then *with L = 0 the plan is still empty*, up to the last offset; *with size 0 the tail way*; a size at a block's edge, after growth; a hole on the
+-- path to byte s − 1, after growth
 unfoldable pub pastEnd : List Row
 pastEnd = row (E2 ∷ []) (writes 3 (67 ∷ [])) 40 (answers (Done 18) ∷ plans E10-plan ∷ leavesFree 4 ∷ reads (65 ∷ 66 ∷ 0 ∷ 67 ∷ []) ∷ [])
     ∷ row (E2 ∷ []) (writes 3 []) 0 (answers (Done 0) ∷ reads (65 ∷ 66 ∷ []) ∷ [])
+    ∷ row (E2 ∷ []) (writes 32768 []) 0 (answers (Done 0) ∷ reads (65 ∷ 66 ∷ []) ∷ [])
+    ∷ row (E2 ∷ []) (writes 32769 []) 0 (answers (Refused End) ∷ reads (65 ∷ 66 ∷ []) ∷ [])
     ∷ row [] (writes 100 (7 ∷ [])) 40 (takes 2 ∷ answers (Done 19) ∷ reads (replicate 100 0 ++ (7 ∷ [])) ∷ [])
     ∷ record { blocksOf = 24; first = writes 0 (replicate 64 1) ∷ []; call = writes 65 (7 ∷ []); room = 90; seenThen = takes 5 ∷ answers (Done 45) ∷ reads (replicate 64 1 ++ (0 ∷ 7 ∷ [])) ∷ [] }
+    ∷ row (E2 ∷ setsLength 100 ∷ []) (writes 130 (7 ∷ [])) 80 (takes 4 ∷ answers (Done 37) ∷ leavesFree 2 ∷ reads ((65 ∷ 66 ∷ replicate 128 0) ++ (7 ∷ [])) ∷ [])
     ∷ []
