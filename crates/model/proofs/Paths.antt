@@ -1,5 +1,5 @@
 -- Which blocks of a tree are made fresh by a write, and how many they are.
-use mathlib.Core.Path.{_≡_, refl, sym, ap, _∙_}
+use mathlib.Core.Path.{_≡_, refl, sym, ap}
 use mathlib.Core.Logic.{_⊎_, inl, inr}
 use mathlib.Core.Bool.{true, false, cond, and-false, false≢true}
 use mathlib.Core.List.{List, []}
@@ -117,17 +117,3 @@ module _ (W : ℕ) where
   pub fresh-quiet : (b : List ℕ) (h k n o l : ℕ) → Quiet k n o → freshNeed W b h k n o l ≡ need W h o l
   unfolding need
   fresh-quiet b h k n o l q = quiet-alike b [] h k n 0 0 o l q (inl refl)
-
-  -- its count by clauses: none where nothing is written, one for data, else one more than what lies under the children
-  pub need-none : (h o : ℕ) → need W h o 0 ≡ 0
-  unfolding need
-  need-none h o = fresh-none [] h 0 0 o 0 (untouched-null h 0 0 o 0 refl refl)
-
-  pub need-data : (o l : ℕ) → 0 < l → need W zero o l ≡ 1
-  unfolding need
-  need-data o l some = fresh-data [] 0 0 o l (touched-new zero 0 0 o l some)
-
-  pub need-node : (h o l : ℕ) → 0 < l → need W (suc h) o l ≡ suc (sum W (λ j. need W h (o - j * span W h) (partLength (span W h) j o l)))
-  unfolding freshBefore
-  need-node h o l some = sym (fresh-quiet [] (suc h) 0 0 o l (inl refl)) ∙ fresh-node [] h 0 0 o l (touched-new (suc h) 0 0 o l some)
-      ∙ ap suc (sum-cong W _ _ (λ j p. fresh-quiet [] h (link W [] 0 j / W) (0 - j * span W h) (o - j * span W h) (partLength (span W h) j o l) (inr (inl (omega arith)))))
