@@ -1,5 +1,5 @@
 #!/usr/bin/env python3
-"""Holds the definitions of crates/model against board.py, a second model of document 01.
+"""Holds the definitions of crates/model against board.py, a second model of document 01 and N3 of document 02.
 
 Makes boards with rubbish wherever the document allows it, has board.py say what calls on them answer and leave, and has the prover
 compute the same from the definitions. Among the calls is one for each way of planning that is met. The numbers are drawn from a seed.
@@ -18,7 +18,14 @@ import board as B
 from making import begun, rubbish
 
 ROOT = os.path.dirname(os.path.dirname(os.path.dirname(os.path.abspath(__file__))))
-FAULTS = ['', 'WordCount', 'Trailer', 'Damaged', 'FileNumber', 'Offset', 'End', 'FreeBlocks', 'PlanLength', 'PairCount', 'Address']
+# By number; 5 never occurs.
+FAULTS = ['', 'WordCount', 'Trailer', 'Damaged', 'FileNumber', '', 'End', 'FreeBlocks', 'PlanLength', 'PairCount', 'Address']
+# The ways of planning that must be met, at offsets up to the size and past it.
+WAYS = ['single word', 'tail', 'empty tail', 'grow1 tail', 'grow2 tail'] + ['inside at root over height %d' % h for h in range(4)] \
+    + ['inside at pointer over height %d' % h for h in range(3)] + ['with length, height %d' % h for h in range(4)] \
+    + ['null%d inside at root over height 3' % d for d in (1, 2, 3)] + ['grow3 inside at pointer over height 2']
+WAYS_PAST = ['past empty tail'] + ['past with length, height %d' % h for h in range(4)] \
+    + ['%s%d past with length, height %d' % (how, d, h) for how in ('grow', 'null') for h in range(1, 4) for d in range(1, h + 1)]
 HEAD = '''use mathlib.Core.Path.{_≡_, refl}
 use mathlib.Core.Bool.{Bool, true, false, not, _&&_}
 use mathlib.Core.List.{List, [], _∷_, _++_}
@@ -28,7 +35,7 @@ use lib.IntN.{ℤ, pos, negsuc}
 use lib.Dec.{eqb}
 use Rattle.model.specs.declared.Answer.{Answer}
 use Rattle.model.specs.declared.Answer.the-variants.{Done, Refused}
-use Rattle.model.specs.declared.Fault.the-variants.{WordCount, Trailer, Damaged, FileNumber, Offset, End, FreeBlocks, PlanLength, PairCount, Address}
+use Rattle.model.specs.declared.Fault.the-variants.{WordCount, Trailer, Damaged, FileNumber, End, FreeBlocks, PlanLength, PairCount, Address}
 use Rattle.model.specs.declared.WalkEnd.{WalkEnd}
 use Rattle.model.specs.declared.WalkEnd.the-variants.{Block, Hole}
 use Rattle.model.specs.Layout.{house}
@@ -80,6 +87,7 @@ def numbers(xs):
 
 
 def answer(n):
+    assert n >= 0 or FAULTS[-n], 'a refusal by %d' % -n
     return '(Done %d)' % n if n >= 0 else '(Refused %s)' % FAULTS[-n]
 
 
@@ -204,13 +212,21 @@ def some_board(rnd):
 # ---- Vectors
 
 
-def every_way(vectors, rnd, tries=4000):
-    """One write for each way of planning that is met."""
+def offset_within(rnd, size):
+    return rnd.choice([size, size, max(0, size - rnd.randrange(1, 70)), rnd.randrange(size + 1)])
+
+
+def offset_past(rnd, size):
+    """Past the end: nearby, where the next block or its node begins, or anywhere."""
+    return rnd.choice([size + 1, size + rnd.randrange(1, 50), size // 64 * 64 + 64, size // 512 * 512 + 512, rnd.randrange(size + 1, 33000)])
+
+
+def every_way(vectors, rnd, offset_of, wanted, tries):
+    """One write for each way of planning that is met; the wanted ones must be."""
     ways = {}
     for _ in range(tries):
         words, file = some_board(rnd)
-        size = B.size(words, file)
-        offset = rnd.choice([size, size, max(0, size - rnd.randrange(1, 70)), rnd.randrange(size + 1)])
+        offset = offset_of(rnd, B.size(words, file))
         new = [rnd.randrange(256) for _ in range(rnd.choice([1, 2, 7, 8, 9, 60, 64, 65, 130, 450, 520]))]
         try:
             plan = B.plan_write(words, file, offset, new)
@@ -221,9 +237,7 @@ def every_way(vectors, rnd, tries=4000):
     for way in sorted(ways):
         _, words, file, offset, new = ways[way]
         vectors.write(words, file, offset, new)
-    for want in ['single word', 'tail', 'empty tail', 'grow1 tail', 'grow2 tail'] + ['inside at root over height %d' % h for h in range(4)] \
-            + ['inside at pointer over height %d' % h for h in range(3)] + ['with length, height %d' % h for h in range(4)] \
-            + ['null%d inside at root over height 3' % d for d in (1, 2, 3)] + ['grow3 inside at pointer over height 2']:
+    for want in wanted:
         assert want in ways, 'no write went the way: ' + want
     return len(ways)
 
@@ -236,6 +250,16 @@ def null_on_path(vectors, rnd):
                 return h >= low and start <= size < start + B.SPAN[h]
             file = rnd.randrange(32)
             vectors.write(made(rnd, 24, file, height, size, exists), file, size, [rnd.randrange(256)])
+
+
+def past_the_end(vectors, rnd):
+    """Writes past the end of a file whose path to its last byte is null below some height, its other blocks there or not."""
+    for height, size, offset, low in [(0, 64, 65, 0), (0, 64, 4096, 1), (0, 100, 130, 0), (1, 64, 128, 0), (1, 64, 65, 1), (1, 70, 71, 0), (1, 70, 300, 2),
+                                      (2, 512, 513, 0), (2, 512, 1024, 1), (2, 512, 600, 2), (2, 600, 700, 1), (2, 576, 2000, 0), (3, 4096, 4097, 1)]:
+        def exists(h, start):
+            return h >= low if h == height or start < size <= start + B.SPAN[h] else rnd.random() < 0.2
+        file = rnd.randrange(32)
+        vectors.write(made(rnd, 40, file, height, size, exists), file, offset, [rnd.randrange(256) for _ in range(rnd.randrange(1, 20))])
 
 
 def each_damage(vectors, rnd):
@@ -257,13 +281,17 @@ def each_damage(vectors, rnd):
 
 
 def bench(vectors):
-    """E10 and E12 on E2's board, a write of no bytes among them; E13's image, whole and cut short."""
+    """E10 and E12 on E2's board, writes of no bytes among them; past the end, a plan slice too short and, as in E9, all free blocks and one
+    more; E13's image, whole and cut short."""
     words = [7] * 128
     for call in (lambda b: B.format_board(b, [0] * 166), lambda b: B.write(b, 0, 0, [65, 66], [0] * 22)):
         pairs, plan = call(words)
         words = B.perform(words, plan, pairs)[1]
-    for offset, new in [(0, []), (2, []), (3, []), (2, [9]), (3, [9]), (2, [9] * 32767)]:
+    for offset, new in [(0, []), (2, []), (3, []), (32768, []), (32769, []), (2, [9]), (3, [9]), (32768, [9]), (2, [9] * 32767)]:
         vectors.write(words, 0, offset, new)
+    vectors.write(words, 0, 3, [9], short=True)
+    for offset, new in [(300, [9] * 148), (300, [9] * 149)]:
+        vectors.write(words, 1, offset, new)
     for length in (32768, 32769):
         vectors.length(words, 0, length)
     image = B.image_of(words)
@@ -277,7 +305,7 @@ def at_random(vectors, rnd, count):
         words, file = some_board(rnd)
         size = B.size(words, file)
         new = [rnd.randrange(256) for _ in range(rnd.randrange(100))]
-        vectors.write(words, file, min(size, rnd.choice([size, size // 2])), new, short=rnd.random() < 0.3)
+        vectors.write(words, file, rnd.choice([size, size // 2, offset_past(rnd, size)]), new, short=rnd.random() < 0.3)
         vectors.write(words, rnd.choice([file, 31, 32, 2**64 - 1]), rnd.choice([size + 1, size, 0, 2**64 - 1]), new[:3])
         vectors.length(words, file, rnd.choice([0, 1, size, size + 1, size + 70, max(0, size - 1), 4097, 32768, 32769, 2**64 - 1]))
         vectors.check(words)
@@ -341,8 +369,9 @@ def main():
     seed, count = (list(map(int, sys.argv[1:])) + [1, 8][len(sys.argv) - 1:])[:2]
     rnd = random.Random(seed)
     vectors = Vectors()
-    ways = every_way(vectors, rnd)
+    ways = every_way(vectors, rnd, offset_within, WAYS, 4000) + every_way(vectors, rnd, offset_past, WAYS_PAST, 2000)
     null_on_path(vectors, rnd)
+    past_the_end(vectors, rnd)
     each_damage(vectors, rnd)
     bench(vectors)
     at_random(vectors, rnd, count)
