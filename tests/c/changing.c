@@ -1,6 +1,6 @@
 /*
  * Tests of the calls on words as C makes them: the order of refusals where several apply, that a refusal changes nothing, plans at the
- * wall of their memory, and the stack. What plans hold is tested by words.py.
+ * wall of their memory, a write past the end that is cut, and the stack. What plans hold is tested by words.py.
  */
 #include "testing.h"
 
@@ -46,6 +46,11 @@ static void write_bytes(uint64_t file, uint64_t offset, size_t len)
     performed(montebeech_words_write(board, board_len, file, offset, bytes, len, plan, MOST_PLAN));
 }
 
+static void set_length(uint64_t file, uint64_t length)
+{
+    performed(montebeech_words_set_length(board, board_len, file, length, plan, MOST_PLAN));
+}
+
 /* ---- Refusals */
 
 static uint64_t board_kept[MOST_WORDS], plan_kept[MOST_PLAN];
@@ -76,6 +81,15 @@ static void length_refuses(int64_t wanted, uint64_t file, uint64_t length, size_
     nothing_changed("length change");
 }
 
+/* A write of no bytes to file 0 has an empty plan, wherever it would begin and though no plan slice is lent. */
+static void no_bytes(uint64_t offset)
+{
+    keep();
+    answers("a write of no bytes", montebeech_words_write(board, board_len, 0, offset, bytes, 0, plan, MOST_PLAN), 0);
+    answers("a write of no bytes, nothing lent", montebeech_words_write(board, board_len, 0, offset, NULL, 0, NULL, 0), 0);
+    nothing_changed("a write of no bytes");
+}
+
 /* A board on which every later refusal applies, mended step by step: each time the first fault decides. */
 static void order_of_refusals(void)
 {
@@ -99,15 +113,23 @@ static void order_of_refusals(void)
     board[8] = pointer;
     write_refuses(-4, 32, LAST, sizeof bytes, 0);
     length_refuses(-4, 32, LAST, 0);
-    write_refuses(-5, 0, LAST, sizeof bytes, 0);
-    write_refuses(-5, 0, 257, 0, 0);
+    write_refuses(-6, 0, LAST, sizeof bytes, 0); /* the sum is 2^64 + 32768 */
+    write_refuses(-6, 0, LAST, 1, 0);            /* 2^64 */
+    write_refuses(-6, 0, LAST, 0, 0);
+    write_refuses(-6, 0, GREATEST + 1, 0, 0);
+    write_refuses(-6, 0, GREATEST, 1, 0);
     length_refuses(-6, 0, LAST, 0);
     write_refuses(-6, 0, 256, sizeof bytes, 0);
     write_refuses(-7, 0, 200, 100, 0);
+    write_refuses(-7, 0, 257, 1, 0); /* past the end */
+    write_refuses(-7, 0, GREATEST - 1, 1, 0);
+    write_refuses(-7, 1, 1, 1, 0); /* past the end of an empty file */
     write_refuses(-8, 0, 0, 1, 1);
     length_refuses(-8, 0, 100, 1);
-    answers("a write of no bytes", montebeech_words_write(board, board_len, 0, 256, NULL, 0, NULL, 0), 0);
     answers("a length that stays", montebeech_words_set_length(board, board_len, 0, 256, NULL, 0), 0);
+    no_bytes(256);
+    no_bytes(257);
+    no_bytes(GREATEST);
 }
 
 static void no_memory(void)
@@ -155,28 +177,88 @@ static void perform_refuses(void)
 
 /* ---- Memory: each slice ends at a wall, and the plan slice is as long as it must be. */
 
+static uint8_t *board_end, *plan_end, *bytes_end;
+
+/* A write to a file of `size` bytes. */
+static void write_at_the_wall(size_t size, uint64_t offset, size_t len)
+{
+    about("%zu bytes at %" PRIu64 " of %zu, at the wall", len, offset, size);
+    format(1024);
+    write_bytes(31, 0, size);
+    uint8_t *new = bytes_end - len;
+    memcpy(new, bytes, len);
+    uint64_t *lent = (uint64_t *)(void *)(board_end - 8 * board_len);
+    memcpy(lent, board, 8 * board_len);
+    int64_t pairs = montebeech_words_write(lent, board_len, 31, offset, new, len, plan, MOST_PLAN);
+    uint64_t *slice = (uint64_t *)(void *)(plan_end - 16 * (size_t)pairs);
+    answers("write", montebeech_words_write(lent, board_len, 31, offset, new, len, slice, 2 * (size_t)pairs), pairs);
+    answers("write in one word less", montebeech_words_write(lent, board_len, 31, offset, new, len, slice + 1, 2 * (size_t)pairs - 1), -8);
+    answers("perform", montebeech_words_perform(lent, board_len, slice, 2 * (size_t)pairs, (uint64_t)pairs), pairs);
+    uint8_t *out = bytes_end - len;
+    memset(out, 0, len);
+    answers("read", montebeech_words_read(lent, board_len, 31, offset, out, len), (int64_t)len);
+    if (fails(memcmp(out, bytes, len) == 0))
+        printf("expected the bytes that were written, found others\n");
+}
+
 static void at_the_wall(void)
 {
-    uint8_t *board_end = memory_before_wall(sizeof board), *plan_end = memory_before_wall(sizeof plan), *bytes_end = memory_before_wall(sizeof bytes);
     const size_t lengths[] = {1, 8, 9, 64, 65, 500, 4096, 20000};
+    board_end = memory_before_wall(sizeof board);
+    plan_end = memory_before_wall(sizeof plan);
+    bytes_end = memory_before_wall(sizeof bytes);
     for (unsigned i = 0; i < 8; i++) {
-        about("%zu bytes at the wall", lengths[i]);
-        format(1024);
-        uint8_t *new = bytes_end - lengths[i];
-        memcpy(new, bytes, lengths[i]);
-        uint64_t *lent = (uint64_t *)(void *)(board_end - 8 * board_len);
-        memcpy(lent, board, 8 * board_len);
-        int64_t pairs = montebeech_words_write(lent, board_len, 31, 0, new, lengths[i], plan, MOST_PLAN);
-        uint64_t *slice = (uint64_t *)(void *)(plan_end - 16 * (size_t)pairs);
-        answers("write", montebeech_words_write(lent, board_len, 31, 0, new, lengths[i], slice, 2 * (size_t)pairs), pairs);
-        answers("write in one word less", montebeech_words_write(lent, board_len, 31, 0, new, lengths[i], slice + 1, 2 * (size_t)pairs - 1), -8);
-        answers("perform", montebeech_words_perform(lent, board_len, slice, 2 * (size_t)pairs, (uint64_t)pairs), pairs);
-        uint8_t *out = bytes_end - lengths[i];
-        memset(out, 0, lengths[i]);
-        answers("read", montebeech_words_read(lent, board_len, 31, 0, out, lengths[i]), (int64_t)lengths[i]);
-        if (fails(memcmp(out, bytes, lengths[i]) == 0))
-            printf("expected the bytes that were written, found others\n");
+        write_at_the_wall(0, 0, lengths[i]);
+        write_at_the_wall(0, 1000, lengths[i]); /* past the end of an empty file */
+        write_at_the_wall(70, 1000, lengths[i]);
     }
+}
+
+/* ---- The coin log: an entry at a fixed place past the end, by one write. */
+
+enum { LOG = 9, LOG_SIZE = 16, LOG_PLACE = LOG_SIZE + 100, LOG_ENTRY = 8, LOG_END = LOG_PLACE + LOG_ENTRY };
+
+static void log_reads(int64_t size, const uint8_t *wanted)
+{
+    uint8_t out[LOG_END + 1];
+    memset(out, 9, sizeof out);
+    answers("read", montebeech_words_read(board, board_len, LOG, 0, out, sizeof out), size);
+    if (fails(memcmp(out, wanted, (size_t)size) == 0))
+        printf("expected its %" PRId64 " bytes, found others\n", size);
+}
+
+/* The board that a cut leaves after some pairs of the plan. */
+static void log_cut(uint64_t pairs)
+{
+    memcpy(board, board_kept, sizeof board);
+    answers("perform", montebeech_words_perform(board, board_len, plan, MOST_PLAN, pairs), (int64_t)pairs);
+    answers("check", montebeech_words_check(board, board_len), 0);
+}
+
+/* Growth takes a block; barrier; the root; barrier; then both data blocks, the block over them and the leaf; barrier; the inode
+   pointer. The bytes between must read 0, though the file was longer once and its block still has other bytes there. */
+static void coin_log(void)
+{
+    const uint64_t whole = 8 + 1 + 1 + 1 + 4 * 8 + 1 + 1;
+    uint8_t wanted[LOG_END] = {0};
+    memcpy(wanted, bytes, LOG_SIZE);
+    memcpy(wanted + LOG_PLACE, bytes, LOG_ENTRY);
+    format(32);
+    write_bytes(LOG, 0, 64);
+    set_length(LOG, LOG_SIZE);
+    about("coin log");
+    int64_t pairs = montebeech_words_write(board, board_len, LOG, LOG_PLACE, bytes, LOG_ENTRY, plan, MOST_PLAN);
+    answers("write", pairs, (int64_t)whole);
+    answers("the first barrier", plan[2 * 8] == MONTEBEECH_BARRIER, 1);
+    keep();
+    for (uint64_t cut = 0; cut < whole; cut++) {
+        about("coin log, cut after %" PRIu64 " pairs", cut);
+        log_cut(cut);
+        log_reads(LOG_SIZE, wanted);
+    }
+    about("coin log, performed");
+    log_cut(whole);
+    log_reads(LOG_END, wanted);
 }
 
 /* ---- Stack */
@@ -211,10 +293,16 @@ static void call_for_stack(void)
     case 7: /* an empty file */
         montebeech_words_write(board, board_len, 2, 0, bytes, 20000, plan, MOST_PLAN);
         break;
-    case 8:
+    case 8: /* past the end: growth by three levels, then shadow with length */
+        montebeech_words_write(board, board_len, 1, 12000, bytes, 9000, plan, MOST_PLAN);
+        break;
+    case 9: /* past the end of an empty file */
+        montebeech_words_write(board, board_len, 2, 9000, bytes, 20000, plan, MOST_PLAN);
+        break;
+    case 10:
         montebeech_words_set_length(board, board_len, 0, GREATEST, plan, MOST_PLAN);
         break;
-    case 9:
+    case 11:
         montebeech_words_format(board, board_len, plan, MOST_PLAN);
         break;
     default:
@@ -229,7 +317,7 @@ static void stack_suffices(void)
     format(1024);
     write_bytes(0, 0, 20000);
     write_bytes(1, 0, 10);
-    for (which_call = 0; which_call < 11; which_call++) {
+    for (which_call = 0; which_call < 13; which_call++) {
         size_t used = stack_used(call_for_stack);
         most = used > most ? used : most;
         if (fails(used <= MONTEBEECH_WORDS_STACK_BYTES))
@@ -247,6 +335,7 @@ int main(void)
     order_of_refusals();
     perform_refuses();
     at_the_wall();
+    coin_log();
     printf("changing: %lu tests, %lu failed\n", tests, failed);
     return failed > 0;
 }

@@ -1,6 +1,6 @@
 /*
- * The bench examples of document 01, E1 to E12, and a plan that is cut, on the calls on words. Under the answer of a call that plans stands its plan, the first word of a pair
- * before the second. What it prints is held to examples.txt.
+ * The bench examples of document 01, E1 to E12, with E10 as N3 of document 02 has it, and a plan that is cut, on the calls on words. Under the answer of a call
+ * that plans stands its plan, the first word of a pair before the second. What it prints is held to examples.txt.
  */
 #include "montebeech.h"
 
@@ -144,10 +144,22 @@ static void e10(void)
 {
     e2_board();
     written("E10 write of no bytes at 2, the size", 2, "", 0);
-    written("E10 write of no bytes at 3", 3, "", 0);
-    written("E10 write of 67 at 3", 3, "C", 1);
-    written("E10 write of 67 at 2^64 - 1", UINT64_MAX, "C", 1);
     written("E10 write of 67 at 2, the size", 2, "C", 1);
+}
+
+/* E10's second part: past the end. */
+static void e10_past(void)
+{
+    uint8_t out[5] = {9, 9, 9, 9, 9};
+    e2_board();
+    written("E10 write of no bytes at 3", 3, "", 0);
+    written("E10 write of no bytes at 32768", 32768, "", 0);
+    written("E10 write of no bytes at 32769", 32769, "", 0);
+    written("E10 write of 67 at 2^64 - 1", UINT64_MAX, "C", 1);
+    written("E10 write of 67 at 3", 3, "C", 1);
+    free_blocks("E10 free");
+    line("E10 read", montebeech_words_read(board, board_len, 0, 0, out, 5));
+    bytes("E10 buffer", out, 5);
 }
 
 static void e12(void)
@@ -159,6 +171,8 @@ static void e12(void)
     written("E12 write of one byte at 32768", 32768, "C", 1);
     written("E12 write of no bytes at 32768", 32768, "", 0);
     written("E12 write of one byte at 32767", 32767, "C", 1);
+    formatted(128);
+    written("E12 write of one byte at 32767 of an empty file", 32767, "C", 1);
 }
 
 static void check(const char *what, size_t words)
@@ -260,6 +274,7 @@ int main(void)
     e7_e8();
     e9();
     e10();
+    e10_past();
     e11();
     e12();
     e10_e12_reading();

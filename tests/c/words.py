@@ -5,7 +5,7 @@ Each history begins with a board, formatted or made with rubbish wherever the do
 performing of their plans; between them reads, and calls that are refused. target/c/words (words.c) makes the same calls. run.sh builds that program first.
 Every way of planning must have been gone at least once.
 
-    words.py [SEED [COUNT]]    COUNT histories (default: seed 1, 120 histories)
+    words.py [SEED [COUNT]]    COUNT histories (default: seed 1, 200 histories)
 """
 import os
 import random
@@ -23,11 +23,13 @@ from making import begun, rubbish
 PROGRAM = os.path.join(ROOT, 'target', 'c', 'words')
 WALL = 2**64 - 1
 SIZES = [0, 1, 7, 8, 63, 64, 65, 128, 130, 448, 512, 513, 700, 4096, 4097, 9000, 32767, 32768]
-LENGTHS = [1, 1, 2, 6, 8, 9, 24, 64, 65, 200, 512, 600, 4096, 5000]
-# The ways of the reference model that must be met.
-WAYS = ['empty', 'single word', 'tail', 'empty tail', 'null. ', 'grow1 ', 'grow2 ', 'grow3 ', '(null|grow). tail', '(null|grow). inside', '(null|grow). with length'] \
-    + ['inside at root over height %d' % h for h in range(4)] + ['inside at pointer over height %d' % h for h in range(3)] \
-    + ['with length, height %d' % h for h in range(4)]
+LENGTHS = [1, 1, 2, 3, 6, 8, 9, 24, 64, 65, 200, 512, 600, 4096, 5000]
+# The ways of the reference model that must be met, up to the end and past it.
+GROWN = ['null.', 'grow1', 'grow2', 'grow3']
+WAYS = ['empty', 'single word', 'tail', 'empty tail', '(null|grow). tail', '(null|grow). inside .*', '(null|grow). with length, .*'] \
+    + [grown + ' (tail|inside .*|with length, .*)' for grown in GROWN] + ['inside at root over height %d' % h for h in range(4)] \
+    + ['inside at pointer over height %d' % h for h in range(3)] + ['with length, height %d' % h for h in range(4)] \
+    + ['past empty', 'past empty tail'] + ['past with length, height %d' % h for h in range(4)] + [grown + ' past with length, .*' for grown in GROWN]
 
 
 def hashed(words):
@@ -124,7 +126,9 @@ class History:
         rnd = self.rnd
         file = rnd.choice([rnd.randrange(6)] * 12 + [31, 32, WALL])
         size = max(B.size(self.board, file), 0)
-        offset = rnd.choice([size] * 4 + [rnd.randrange(size + 1)] * 4 + [0, size // 64 * 64, max(size - 1, 0), size + 1, 32768, WALL])
+        past = rnd.choice([size + 1, size + rnd.randrange(1, 9), size + rnd.randrange(1, 50), size // 64 * 64 + 64, size // 512 * 512 + 512,
+                           rnd.randrange(size + 1, 33000)])
+        offset = rnd.choice([size] * 4 + [rnd.randrange(size + 1)] * 4 + [past] * 6 + [0, size // 64 * 64, max(size - 1, 0), 32768, WALL])
         length = rnd.choice(LENGTHS + [0, max(size - offset, 0), rnd.randrange(1, 300), max(32768 - offset, 0) % 40000, max(32769 - offset, 0) % 40000])
         new = [rnd.randrange(256) for _ in range(length)]
         try:
@@ -172,7 +176,7 @@ class History:
 
 
 def main():
-    seed, count = (list(map(int, sys.argv[1:])) + [1, 120][len(sys.argv) - 1:])[:2]
+    seed, count = (list(map(int, sys.argv[1:])) + [1, 200][len(sys.argv) - 1:])[:2]
     rnd = random.Random(seed)
     sent, wanted, ways = [], [], []
     for _ in range(count):
@@ -182,7 +186,7 @@ def main():
     failed = [i for i in range(len(wanted)) if i >= len(found) or found[i].rstrip() != wanted[i]]
     for i in failed[:20]:
         print('call %d: expected %s, found %s' % (i, wanted[i][:80], found[i][:80] if i < len(found) else 'nothing'))
-    missed = [way for way in WAYS if not any(re.match(way + ('$' if way in ('empty', 'tail') else ''), met) for met in ways)]
+    missed = [way for way in WAYS if not any(re.fullmatch(way, met) for met in ways)]
     for way in missed:
         print('words: no write went the way %r' % way)
     answers = {}
