@@ -129,12 +129,36 @@ pub fn formatted(random: &mut Random, blocks: u64) -> Vec<u64> {
     words
 }
 
-// ---- Damage
+// ---- Walks
 
 /// The address of a file's root word on an accepted board; the size follows it.
 pub fn inode(board: &[u64], file: u64) -> usize {
     let pointers = board[board.len() - 8] / 8;
     (board[(8 * pointers + file / 4) as usize] / 8 * 8 + 2 * (file % 4)) as usize
+}
+
+/// The blocks on the path to a byte below the size, from the root's on, as far as they exist.
+pub fn path(board: &[u64], file: u64, byte: u64) -> Vec<u64> {
+    let root = board[inode(board, file)];
+    let mut height = (root % 8) as usize;
+    let mut block = if byte < SPAN[height] { root / 8 } else { 0 };
+    let mut found = Vec::new();
+    while block != 0 {
+        found.push(block);
+        if height == 0 {
+            break;
+        }
+        height -= 1;
+        block = board[(8 * block + byte / SPAN[height] % 8) as usize] / 8;
+    }
+    found
+}
+
+/// The data block with a byte below the size, or nothing where the byte is in a hole.
+pub fn data_block(board: &[u64], file: u64, byte: u64) -> Option<u64> {
+    let path = path(board, file, byte);
+    let height = board[inode(board, file)] % 8;
+    path.get(height as usize).copied()
 }
 
 /// The addresses of the live pointers of a tree.
@@ -165,6 +189,13 @@ fn all_live_pointers(board: &[u64]) -> Vec<usize> {
     }
     found
 }
+
+/// The blocks that live roots and file pointers of an accepted board lead to, 0 for a null one.
+pub fn live_blocks(board: &[u64]) -> Vec<u64> {
+    all_live_pointers(board).into_iter().map(|at| board[at] / 8).collect()
+}
+
+// ---- Damage
 
 /// What a pointer may be spoilt to: null, low bits, the trailer, off the board, block 0 with low bits, another block.
 fn spoilt(random: &mut Random, board: &[u64], old: u64) -> u64 {

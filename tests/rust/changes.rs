@@ -1,7 +1,8 @@
 //! Random writes and length changes: the library's plan, and before and after as plain arrays of bytes.
 
-use support::boards::GREATEST;
+use support::boards::{GREATEST, SPAN};
 use support::library;
+use support::past_end;
 use support::random::Random;
 use support::ways::Ways;
 
@@ -32,25 +33,39 @@ pub fn contents(board: &[u64]) -> Vec<Vec<u8>> {
     (0..FILES).map(read).collect()
 }
 
-/// Where a write begins and how many bytes it has, small ones more often.
+/// Where a write begins and how many bytes it has, small ones more often, past the end still more so.
 fn stretch(random: &mut Random, size: u64) -> (u64, usize) {
-    let offset = match random.below(4) {
+    let offset = match random.below(7) {
         0 => size,
         1 => random.below(size + 1) / 8 * 8,
+        // Many of these are refused: the end is too far, or the blocks are too few.
+        2..=4 => past_end::offset(random, size),
         _ => random.below(size + 1),
     };
-    let count = match random.below(6) {
+    let count = match random.below(if offset > size { 14 } else { 7 }) {
         0 => 1 + random.below(8 - offset % 8),
         1 => 1 + random.below(2000),
-        2 => random.pick(&[64, 512, 4096, 32768]).max(offset + 1) - offset,
+        2 => random.pick(&SPAN).max(offset + 1) - offset,
+        3 => 64 - offset % 64,
         _ => 1 + random.below(100),
     };
     (offset, count as usize)
 }
 
+/// A length: any, near the size, or a multiple of a span, so that later writes past the end find full blocks.
+fn length(random: &mut Random, size: u64) -> u64 {
+    let span = random.pick(&SPAN[..3]);
+    match random.below(4) {
+        0 => random.below(GREATEST + 1),
+        1 => random.below(2 * size + 200),
+        2 => (size / span).max(1) * span,
+        _ => (1 + random.below(8)) * span,
+    }
+}
+
 fn asked(random: &mut Random, size: u64) -> Asked {
     if random.one_in(3) {
-        return Asked::Length(if random.one_in(2) { random.below(GREATEST + 1) } else { random.below(2 * size + 200) });
+        return Asked::Length(length(random, size));
     }
     let (offset, count) = stretch(random, size);
     Asked::Write(offset, random.bytes(count))
@@ -80,7 +95,7 @@ fn planned(board: &[u64], file: u64, asked: &Asked, ways: &mut Ways) -> (i64, Ve
     plan.truncate(2 * pairs.max(0) as usize);
     match asked {
         Asked::Length(length) => ways.set_length(board, file, *length, &plan),
-        Asked::Write(offset, bytes) => ways.write(board, file, offset + bytes.len() as u64, &plan),
+        Asked::Write(offset, bytes) => ways.write(board, file, *offset, offset + bytes.len() as u64, &plan),
     }
     (pairs, plan)
 }

@@ -254,7 +254,7 @@ fn main() {
         test.round();
     }
     test.report();
-    if words.wanted >= 50_000 {
+    if words.wanted >= 200_000 {
         test.ways.all_met();
         assert!(test.no_barriers.found > 0 && test.commits_alone.found > 0, "no spoilt plan was found");
     }

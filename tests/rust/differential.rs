@@ -10,6 +10,7 @@ use std::io::Write;
 use std::process::{Command, Stdio};
 use support::boards::{block_count, damage, formatted, image_of, laid, unknown};
 use support::library;
+use support::past_end;
 use support::random::Random;
 use support::rounds::Words;
 use support::ways::Ways;
@@ -47,8 +48,21 @@ fn offset(random: &mut Random, size: u64) -> u64 {
     }
 }
 
+/// An offset for a write, past the end more often than for other calls.
+fn write_offset(random: &mut Random, size: u64) -> u64 {
+    if random.one_in(4) {
+        past_end::offset(random, size)
+    } else {
+        offset(random, size)
+    }
+}
+
 /// The count of a write's bytes: small, to a bound of the tree, to the size, inside one word, or any.
 fn count(random: &mut Random, size: u64, offset: u64) -> usize {
+    // Few free blocks are enough for most writes past the end.
+    if offset > size && !random.one_in(4) {
+        return random.below(100) as usize;
+    }
     let wanted = match random.below(10) {
         0 | 1 => random.pick(&[0, 1, 2, 6, 7, 8, 9, 24, 63, 64, 65]),
         2 | 3 => random.pick(&BOUNDS[1..5]).wrapping_sub(offset).wrapping_add(random.below(3)).wrapping_sub(1),
@@ -141,11 +155,11 @@ impl Test {
     fn writing(&mut self, board: &mut Vec<u64>, few: &[u64; 3]) {
         let file = file(&mut self.random, few);
         let size = self.size(board, file);
-        let offset = offset(&mut self.random, size);
+        let offset = write_offset(&mut self.random, size);
         let count = count(&mut self.random, size, offset);
         let bytes = self.some_bytes(count);
         let plan = self.planned(board, |calls, room| calls.write(board, file, offset, &bytes, room));
-        self.ways.write(board, file, offset.saturating_add(count as u64), &plan);
+        self.ways.write(board, file, offset, offset.saturating_add(count as u64), &plan);
         self.performed(board, &plan);
     }
 

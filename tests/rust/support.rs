@@ -2,6 +2,7 @@
 
 pub mod boards;
 pub mod library;
+pub mod past_end;
 pub mod random;
 pub mod rounds;
 pub mod ways;

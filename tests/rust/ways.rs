@@ -2,6 +2,7 @@
 //! often each was met.
 
 use crate::boards::{inode, SPAN};
+use crate::past_end::{Kinds, PastEnd};
 
 const WAYS: [&str; 7] = [
     "single word",
@@ -13,19 +14,23 @@ const WAYS: [&str; 7] = [
     "larger length by the size alone",
 ];
 
-/// Plans met by each way, and how many of them growth came before.
+const TAIL: usize = 1;
+const SHADOW_WITH_LENGTH: usize = 3;
+
+/// Plans met by each way, and how many of them growth came before; and those of writes past the end by their kinds.
 #[derive(Default)]
 pub struct Ways {
     met: [(u64, u64); 7],
+    past_end: Kinds,
 }
 
 /// A write's way, by its number of pairs and the address of its last store.
 fn of_write(board: &[u64], file: u64, pairs: usize, last: usize) -> usize {
     let pointers = (board[board.len() - 8] / 8 * 8) as usize;
     if last == inode(board, file) + 1 {
-        1
+        TAIL
     } else if (pointers..pointers + 8).contains(&last) {
-        3
+        SHADOW_WITH_LENGTH
     } else if pairs == 1 {
         0
     } else {
@@ -34,17 +39,24 @@ fn of_write(board: &[u64], file: u64, pairs: usize, last: usize) -> usize {
 }
 
 impl Ways {
-    /// Of a write that ends at `end`, on the board that was lent; a plan of no pairs counts nowhere.
-    pub fn write(&mut self, board: &[u64], file: u64, end: u64, plan: &[u64]) {
+    /// Of a write from `offset` to `end`, on the board that was lent; a plan of no pairs counts nowhere.
+    pub fn write(&mut self, board: &[u64], file: u64, offset: u64, end: u64, plan: &[u64]) {
         if plan.is_empty() {
             return;
         }
+        assert!(offset < end, "a write of no bytes has a plan");
         let at = inode(board, file);
         let (root, size) = (board[at], board[at + 1]);
         let way = of_write(board, file, plan.len() / 2, plan[plan.len() - 2] as usize);
         self.met[way].0 += 1;
         if size > 0 && end > SPAN[(root % 8) as usize] {
             self.met[way].1 += 1;
+        }
+        if let Some(write) = PastEnd::of(board, file, offset, end) {
+            let expected = if write.into_empty() { TAIL } else { SHADOW_WITH_LENGTH };
+            assert!(way == expected, "a write past the end goes by {}, not by {}", WAYS[way], WAYS[expected]);
+            write.look(plan);
+            self.past_end.count(&write);
         }
     }
 
@@ -67,14 +79,16 @@ impl Ways {
             let growth = if at < 4 { format!(", after growth {grown}") } else { String::new() };
             println!("plans by {name}: {all}{growth}");
         }
+        self.past_end.report();
     }
 
-    /// Every way must have been met, the three that can follow growth also after it.
+    /// Every way must have been met, the three that can follow growth also after it, and every kind past the end.
     pub fn all_met(&self) {
         for (name, &(all, _)) in WAYS.iter().zip(&self.met) {
             assert!(all > 0, "no plan by {name}");
         }
         assert!(self.met[1..=3].iter().all(|&(_, grown)| grown > 0), "a way was not met after growth");
         assert!(self.met[0].1 == 0, "growth before a single word");
+        self.past_end.all_met();
     }
 }
