@@ -10,11 +10,11 @@ use lib.ListN.{length, getD, set, length-set, getD-replicate}
 use lib.Seq.{getD-set-same, getD-set-other}
 use Rattle.model.specs.Lists.{joined}
 use Rattle.model.specs.Tree.{seen, span, link}
-use Rattle.model.specs.Fresh.{Page, part, touched, freshNeed, freshBefore, dataPage, pointerPage, build}
+use Rattle.model.specs.Fresh.{Page, part, partLength, touched, freshNeed, freshBefore, dataPage, pointerPage, build}
 use Rattle.model.proofs.Cases.{decide, length-joined}
 use Rattle.model.proofs.Agree.{seen-live, seen-dead}
 use Rattle.model.proofs.Splice.{length-part, choose-zero, choose-pos}
-use Rattle.model.proofs.Paths.{kidNeed, fresh-node}
+use Rattle.model.proofs.Paths.{kidNeed, fresh-none, fresh-node, fresh-pos}
 use Rattle.model.proofs.Built.{kid, kid-lengths, build-none, build-data, build-node, length-build, room}
 use Rattle.building.specs.Taking.{taking, Took}
 use Rattle.building.proofs.Taken as Taken
@@ -81,42 +81,39 @@ module _ {free b : List ℕ} {h k n o : ℕ} {new plan₀ : List ℕ} {base c j 
         → Children free b h k n o new plan₀ base c (j + 1) plan′ (set page j v) taken′
     turn-set {v = v} u e = turn u (length-set page j v ∙ t .width) (getD-set-same page j v 0 (omega (arith, t .width)) ∙ e) (λ i z. getD-set-other page j i v 0 z)
 
-    -- child j is laid, and took some blocks or none
-    module _ {s x m o′ : ℕ} {own plan′ : List ℕ} {taken′ : ℕ} (es : s ≡ span 8 h) (eo : own ≡ part s j o new) (ex : x ≡ link 8 b k j) (em : m ≡ n - j * s) (eo′ : o′ ≡ o - j * s)
-        (u : Took free plan base taken (build 8 (taking free) b h (x / 8) m o′ own taken) plan′ taken′) where
+    module _ {s x m o′ : ℕ} {own : List ℕ} (es : s ≡ span 8 h) (eo : own ≡ part s j o new) (ex : x ≡ link 8 b k j) (em : m ≡ n - j * s) (eo′ : o′ ≡ o - j * s) where
       same : build 8 (taking free) b h (x / 8) m o′ own taken ≡ child free b h k n o new c j
       same = cc (taken-before)
 
-      count : taken′ ≡ taken + kidNeed 8 b h k n o (length new) j
-      count = omega (
-        arith,
-        u .next,
-        ap length same,
-        length-build 8 positive b (taking free) h (link 8 b k j / 8) (n - j * span 8 h) (o - j * span 8 h) (part (span 8 h) j o new) (c + freshBefore 8 b h k n o (length new) j),
-        ap (freshNeed 8 b h (link 8 b k j / 8) (n - j * span 8 h) (o - j * span 8 h)) (length-part (span 8 h) j o new),
-      )
+      count : freshNeed 8 b h (x / 8) m o′ (length own) ≡ kidNeed 8 b h k n o (length new) j
+      count =
+          let l : length own ≡ partLength (span 8 h) j o (length new) = ap length eo ∙ rw es (length-part (span 8 h) j o new) in
+          cc
 
-      old : taken′ ≡ taken → pointers free b h k n o new c j ≡ seen (n - j * span 8 h) (link 8 b k j)
-      unfolding pointerPage
-      old none = choose-zero (kidNeed 8 b h k n o (length new) j) _ _ (omega (arith, count))
+      -- a child that is not made fresh: nothing is laid, and its pointer is the old one
+      module _ (none : touched 8 h (x / 8) m o′ (length own) ≡ false) where
+        nothing : Took free plan base taken (child free b h k n o new c j) plan taken
+        nothing = Taken.same-pages (sym (build-none 8 positive b (taking free) h (x / 8) m o′ own taken none) ∙ same) Taken.none
 
-      pub dead-child : taken′ ≡ taken → n ≤ j * s → Children free b h k n o new plan₀ base c (j + 1) plan′ page taken′
-      dead-child none past = turn (Taken.same-pages same u) (t .width)
-          (t .ahead j (omega arith) j-lt ∙ sym (old none ∙ seen-dead (n - j * span 8 h) (link 8 b k j) (omega (arith, rw es at past)))) (λ i z. refl)
+        old : pointers free b h k n o new c j ≡ seen (n - j * span 8 h) (link 8 b k j)
+        unfolding pointerPage
+        old = choose-zero (kidNeed 8 b h k n o (length new) j) _ _ (sym count ∙ fresh-none 8 b h (x / 8) m o′ (length own) none)
 
-      pub old-child : taken′ ≡ taken → j * s < n → Children free b h k n o new plan₀ base c (j + 1) plan′ (set page j x) taken′
-      old-child none live = turn-set (Taken.same-pages same u) (ex ∙ sym (old none ∙ seen-live (n - j * span 8 h) (link 8 b k j) (omega (arith, rw es at live))))
+        pub dead-child : n ≤ j * s → Children free b h k n o new plan₀ base c (j + 1) plan page taken
+        dead-child past = turn nothing (t .width) (t .ahead j (omega arith) j-lt ∙ sym (old ∙ seen-dead (n - j * span 8 h) (link 8 b k j) (omega (arith, rw es at past)))) (λ i z. refl)
 
-      pub fresh-child : {block : ℕ} → taken′ ≢ taken → block ≡ getD free (taken′ - 1) 0
+        pub old-child : j * s < n → Children free b h k n o new plan₀ base c (j + 1) plan (set page j x) taken
+        old-child live = turn-set nothing (ex ∙ sym (old ∙ seen-live (n - j * span 8 h) (link 8 b k j) (omega (arith, rw es at live))))
+
+      pub fresh-child : {plan′ : List ℕ} {taken′ block : ℕ} → touched 8 h (x / 8) m o′ (length own) ≡ true
+          → Took free plan base taken (build 8 (taking free) b h (x / 8) m o′ own taken) plan′ taken′ → block ≡ getD free (taken′ - 1) 0
           → Children free b h k n o new plan₀ base c (j + 1) plan′ (set page j (8 * block)) taken′
       unfolding pointerPage taking
-      fresh-child {block} some eb =
+      fresh-child {plan′} {taken′} {block} some u eb =
           let l : ℕ = kidNeed 8 b h k n o (length new) j in
-          let at : taken′ ≡ c + freshBefore 8 b h k n o (length new) j + l = omega (arith, count, taken-before) in
-          turn-set (Taken.same-pages same u) (ap (λ (y : ℕ). 8 * y) eb ∙ ap (λ (y : ℕ). 8 * getD free (y - 1) 0) at ∙ sym (choose-pos l _ _ (omega (arith, count, some))))
-
-      pub some-taken : taken′ ≢ taken → 0 < taken′
-      some-taken some = omega (arith, count)
+          let at : taken′ ≡ c + freshBefore 8 b h k n o (length new) j + l = omega (arith, u .next, length-build 8 positive b (taking free) h (x / 8) m o′ own taken, count, taken-before) in
+          turn-set (Taken.same-pages same u)
+          (ap (λ (y : ℕ). 8 * y) eb ∙ ap (λ (y : ℕ). 8 * getD free (y - 1) 0) at ∙ sym (choose-pos l _ _ (omega (arith, count, fresh-pos 8 b h (x / 8) m o′ (length own) some))))
 
 -- ---- The tree
 
@@ -127,6 +124,11 @@ module _ (free b : List ℕ) (h k n o : ℕ) (new : List ℕ) {plan₀ : List �
   pub leaf : {plan : List ℕ} {taken : ℕ} → touched 8 h k n o (length new) ≡ true → h ≡ 0 → Took free plan₀ base c (dataPage 8 b k n o new ∷ []) plan taken
       → Took free plan₀ base c (build 8 (taking free) b h k n o new c) plan taken
   leaf some low = Taken.same-pages (sym (built-data (taking free) b h k n o new c some low))
+
+-- a block that is made fresh is taken
+pub taken-some : {free plan₀ plan : List ℕ} {base c taken : ℕ} (b : List ℕ) (h k n o : ℕ) (new : List ℕ) → touched 8 h k n o (length new) ≡ true
+    → Took free plan₀ base c (build 8 (taking free) b h k n o new c) plan taken → 0 < taken
+taken-some {free} {c = c} b h k n o new some t = omega (arith, t .next, length-build 8 positive b (taking free) h k n o new c, fresh-pos 8 b h k n o (length new) some)
 
 need-tall : (b : List ℕ) (h k n o l : ℕ) → h ≢ 0 → freshNeed 8 b (suc (h - 1)) k n o l ≡ freshNeed 8 b h k n o l
 need-tall b h k n o l tall = let e : suc (h - 1) ≡ h = omega arith in ap (λ (x : ℕ). freshNeed 8 b x k n o l) e

@@ -179,29 +179,20 @@ pub fn build(
     if h == 0 {
         return take_data(board, grown, free, plan, base, k, n, o, new, c);
     }
-    let s = span(h - 1);
+    let g = h - 1;
+    let s = span(g);
     let mut page = [0u64; 8];
     let mut taken = c;
     let mut j = 0;
+    // Child j is the tree (g, x / 8, m), with `own` written at p.
     while j < 8 {
         let first = j as u64 * s;
+        let m = minus(n, first);
+        let p = minus(o, first);
         let own = part(new, s, j as u64, o);
         let x = link_on(board, grown, k, j as u64);
-        let before = taken;
-        taken = build(
-            board,
-            grown,
-            free,
-            plan,
-            base,
-            h - 1,
-            x / 8,
-            minus(n, first),
-            minus(o, first),
-            own,
-            taken,
-        );
-        if taken != before {
+        if touched(g, x / 8, m, p, own.len() as u64) {
+            taken = build(board, grown, free, plan, base, g, x / 8, m, p, own, taken);
             page[j] = 8 * word(free, taken - 1);
         } else if first < n {
             page[j] = x;

@@ -44,12 +44,12 @@ known t = (
   take-data-reads.Learnt,
   span-reads.Asked,
   span-reads.Learnt,
+  minus-reads.Asked,
+  minus-reads.Learnt,
   part-reads.Asked,
   part-reads.Learnt,
   link-on-reads.Asked,
   link-on-reads.Learnt,
-  minus-reads.Asked,
-  minus-reads.Learnt,
   below t,
   build.Post,
   word-reads.Asked,
@@ -59,11 +59,11 @@ known t = (
 )
 
 abbrev Inv-loop : lts.InvT-loop
-Inv-loop board grown free plan₀ base h k n o new c s page₀ taken₀ j₀ plan page taken j =
+Inv-loop board grown free plan₀ base h k n o new c g s page₀ taken₀ j₀ plan page taken j =
     (j ≤ 8) × Trees.Children free (onto board grown) (h - 1) k n o new plan₀ base c j plan page taken
 
 abbrev μ-loop : lts.MeasureT-loop
-μ-loop board grown free plan₀ base h k n o new c s page₀ taken₀ j₀ plan page taken j = 8 - j
+μ-loop board grown free plan₀ base h k n o new c g s page₀ taken₀ j₀ plan page taken j = 8 - j
 
 module _ (t : ℕ) where
   abbrev N : (lts.Claims → In 5 kinds.ps → Out 5 kinds.ps kinds.r → lts.InvT-loop → lts.MeasureT-loop → Type 0) → Type 0
@@ -87,28 +87,28 @@ module _ (t : ℕ) where
   mul-first c = omega (arith, mul-le-mul (c .loop-test .taken) (c .before .before .span .ensures .high))
 
   build-requires : N lts.Need-build-requires
-  build-requires c κs = let l = c .before .before .before .before .before .before in let e = l .before .before .before in let a = e .before .before .before .before .before .before .before in
-      let room = Trees.child-fits (sym (e .before .touched .ensures) ∙ not-false _ (e .if1 .left)) (l .before .before .if2 .left) (l .loop .inv .1) (a .pre .1 .2) (c .before .before .before .before .before .loop-test .taken)
-      (l .before .span .ensures .is) (c .before .before .before .before .part .ensures) (c .before .before .before .link-on .ensures) (c .before .minus .ensures) (c .minus2 .ensures) in
+  build-requires c κs = let x = c .before .before .before in let l = x .before .before .before .before .before in let e = l .before .before .before in let a = e .before .before .before .before .before .before .before in
+      let room = Trees.child-fits (sym (e .before .touched .ensures) ∙ not-false _ (e .if1 .left)) (l .before .before .if2 .left) (l .loop .inv .1) (a .pre .1 .2) (x .before .before .before .before .loop-test .taken)
+      (l .before .span .ensures .is) (x .before .part .ensures) (x .link-on .ensures) (x .before .before .before .minus .ensures) (x .before .before .minus2 .ensures) in
       (omega (arith, a .pre .0, l .before .before .if2 .left), (omega (arith, a .pre .1 .0), a .pre .1 .1, room))
 
   sub-word : N lts.Need-sub-word
-  sub-word c = let u = c .before .before .before in let l = c .before .before .before .before .before .before .before .before .before .before in
-      Trees.some-taken (l .loop .inv .1) (c .before .before .before .before .before .before .before .before .before .loop-test .taken) (l .before .span .ensures .is) (c .before .before .before .before .before .before .before .before .part .ensures) (c .before .before .before .before .before .before .before .link-on .ensures) (c .before .before .before .before .before .minus .ensures) (c .before .before .before .before .minus2 .ensures)
-      (u .build .ensures) (c .if3 .taken)
+  sub-word c = let f = c .before .before .before .before in Trees.taken-some _ _ _ _ _ _ (sym (f .before .touched2 .ensures) ∙ f .if3 .taken) (c .before .before .build .ensures)
 
   mul-page : N lts.Need-mul-page
-  mul-page c = let a = c .before .before .before .before .before .before .before .before .before .before .before .before .before .before .before .before .before .before .before .before .before in omega (arith, Taken.block-small _ (a .pre .1 .1) (c .word .ensures))
+  mul-page c = let l = c .before .before .before .before .before .before .before .before .before .before .before .before in
+      let a = l .before .before .before .before .before .before .before .before .before .before in
+      omega (arith, Taken.block-small _ (a .pre .1 .1) (c .word .ensures))
 
   loop-again : N lts.Need-loop-again
-  loop-again c = let l = c .before .before .before .before .before .before .before .before .before .before in let less = c .before .before .before .before .before .before .before .before .before .loop-test .taken in let inv = l .loop .inv .1 in
-      let is = l .before .span .ensures .is in let own = c .before .before .before .before .before .before .before .before .part .ensures in let old = c .before .before .before .before .before .before .before .link-on .ensures in
-      let left = c .before .before .before .before .before .minus .ensures in let at = c .before .before .before .before .minus2 .ensures in let laid = c .before .before .before .build .ensures in
+  loop-again c = let x = c .before .before in let l = x .before .before .before .before .before in let inv = l .loop .inv .1 in let less = x .before .before .before .before .loop-test .taken in
+      let is = l .before .span .ensures .is in let own = x .before .part .ensures in let old = x .link-on .ensures in
+      let left = x .before .before .before .minus .ensures in let at = x .before .before .minus2 .ensures in let test = sym (c .before .touched2 .ensures) in
       ⊎-elim
-      (λ w. rw (w .2) (omega arith, Trees.fresh-child inv less is own old left at laid (w .0 .taken) (w .1 .ensures)))
+      (λ w. rw (w .6, w .7, w .8) (omega arith, Trees.fresh-child inv less is own old left at (test ∙ w .0 .taken) (w .2 .ensures) (w .5 .ensures)))
       (⊎-elim
-      (λ w. rw (w .2) (omega arith, Trees.old-child inv less is own old left at laid (w .0 .left) (w .1 .taken)))
-      (λ w. rw (w .2) (omega arith, Trees.dead-child inv less is own old left at laid (w .0 .left) (w .1 .left))))
+      (λ w. rw (w .2, w .3, w .4) (omega arith, Trees.old-child inv less is own old left at (test ∙ w .0 .left) (w .1 .taken)))
+      (λ w. rw (w .2, w .3, w .4) (omega arith, Trees.dead-child inv less is own old left at (test ∙ w .0 .left) (w .1 .left))))
       (c .if3 .came)
 
   take-requires : N lts.Need-take-requires
@@ -135,7 +135,7 @@ pub +build-spec : {M : Type 1} → statement M
     (mul-first t)
     (λ c κs. search needs)
     (λ c κs. search needs)
-    (λ c. omega arith)
+    (λ c κs. search needs)
     (λ c κs. search needs)
     (λ c κs. search needs)
     (build-requires t)
