@@ -181,7 +181,7 @@ fn lay_block<S: Sink>(view: &View, sink: &mut S, words: &[u64; 8], taken: &mut u
     *taken += 1;
 }
 
-/// Lays the fresh blocks of the tree (h, k, n) with `new` written at o, and answers the last of them.
+/// Lays the fresh blocks of the tree (h, k, n), its own among them, with `new` written at o, and answers the last of them.
 fn build<S: Sink>(view: &View, sink: &mut S, h: usize, k: u64, n: u64, o: u64, new: &[u8], taken: &mut usize) -> u64 {
     let mut words = [0; 8];
     if h == 0 {
@@ -201,11 +201,13 @@ fn build<S: Sink>(view: &View, sink: &mut S, h: usize, k: u64, n: u64, o: u64, n
         }
     } else {
         let s = SPAN[h - 1];
+        // Where o lies past the size, the child that holds the last byte below the size is made fresh too, if it exists.
+        let last = if n < o && n != 0 { (n - 1) / s } else { 8 };
         for j in 0..8 {
             let first = j * s;
             let own = part(new, s, j, o);
             let x = if first < n { view.link(k, j) } else { 0 };
-            if !own.is_empty() {
+            if !own.is_empty() || j == last && x != 0 {
                 words[j as usize] = 8 * build(view, sink, h - 1, x / 8, n.saturating_sub(first), o.saturating_sub(first), own, taken);
             } else {
                 words[j as usize] = x;
@@ -316,9 +318,9 @@ fn plan_write<S: Sink>(board: &[u64], free: &[u64], sink: &mut S, file: u64, o: 
             return taken;
         }
     }
-    if o == size && size == 0 {
+    if size == 0 {
         let h = least_height(e);
-        let block = build(&view, sink, h as usize, 0, 0, 0, new, &mut taken);
+        let block = build(&view, sink, h as usize, 0, 0, o, new, &mut taken);
         sink.pair(at, 8 * block + h);
         commit(sink, from, at + 1, e);
     } else if o == size && live_path(&view, h, k, size) {
@@ -388,11 +390,7 @@ pub fn write(board: &[u64], file: u64, offset: u64, bytes: &[u8], plan: &mut [u6
     if file > 31 {
         return -4;
     }
-    let size = board[inode(board, file) as usize + 1];
-    if offset > size {
-        return -5;
-    }
-    if bytes.len() as u64 > 32768 - offset {
+    if offset > 32768 || bytes.len() as u64 > 32768 - offset {
         return -6;
     }
     if bytes.is_empty() {

@@ -5,7 +5,7 @@ mod plain;
 
 use std::hint::black_box;
 use std::time::Instant;
-use support::library::{format, perform, set_length, write};
+use support::library::{format, perform, set_length, size, write};
 
 const WORDS: usize = 8192;
 const PLAN: usize = 12000;
@@ -41,11 +41,11 @@ fn put(board: &mut [u64], file: u64, offset: u64, bytes: &[u8]) {
     done(perform(board, &plan, pairs));
 }
 
-/// Random writes and length changes, the writes by both versions.
-fn same_plans(random: &mut Random) -> (u32, u32) {
+/// Random writes and length changes, the writes by both versions. How many writes are accepted, how many of those begin past the end, and how many are refused.
+fn same_plans(random: &mut Random) -> (u32, u32, u32) {
     let mut board = formatted();
     let bytes: Vec<u8> = (0..33000).map(|_| random.below(256) as u8).collect();
-    let (mut accepted, mut refused) = (0, 0);
+    let (mut accepted, mut past, mut refused) = (0, 0, 0);
     for _ in 0..20000 {
         let file = random.below(5);
         let mut plans = [vec![7; PLAN], vec![7; PLAN]];
@@ -57,8 +57,9 @@ fn same_plans(random: &mut Random) -> (u32, u32) {
             }
             continue;
         }
+        let size = done(size(&board, file));
         let far = [800, 33000][random.below(2) as usize];
-        let offset = random.below(far);
+        let offset = if random.below(4) == 0 { size + random.below(130) } else { random.below(far) };
         let most = [9, 130, 1500, 33000][random.below(4) as usize];
         let (from, length) = (random.below(100) as usize, random.below(most).min(32900) as usize);
         let room = if random.below(8) == 0 { random.below(200) as usize } else { PLAN };
@@ -72,11 +73,12 @@ fn same_plans(random: &mut Random) -> (u32, u32) {
             continue;
         }
         accepted += 1;
+        past += (length != 0 && offset > size) as u32;
         let mut other = board.clone();
         assert_eq!(perform(&mut board, &plans[0], ours as u64), plain::perform(&mut other, &plans[0], ours as u64));
         assert!(board == other, "the boards differ");
     }
-    (accepted, refused)
+    (accepted, past, refused)
 }
 
 struct Job {
@@ -93,9 +95,12 @@ fn jobs(random: &mut Random) -> Vec<Job> {
     let empty = formatted();
     let mut filled = formatted();
     put(&mut filled, 0, 0, &whole[..16384]);
+    let mut short = formatted();
+    put(&mut short, 0, 0, &whole[..3000]);
     let append = 16384;
     vec![
-        Job { name: "one word", board: filled.clone(), offset: 8000, bytes: word },
+        Job { name: "one word", board: filled.clone(), offset: 8000, bytes: word.clone() },
+        Job { name: "8 bytes past the end", board: short, offset: 3400, bytes: word },
         Job { name: "64-byte append", board: filled.clone(), offset: append, bytes: block },
         Job { name: "4,096-byte overwrite", board: filled.clone(), offset: 4096, bytes: large },
         Job { name: "32,768-byte write", board: empty, offset: 0, bytes: whole },
@@ -129,8 +134,9 @@ fn median(mut figures: Vec<f64>) -> f64 {
 
 fn main() {
     let mut random = Random(88172645463325252);
-    let (accepted, refused) = same_plans(&mut random);
-    println!("the same plans and boards: {accepted} writes accepted, {refused} refused");
+    let (accepted, past, refused) = same_plans(&mut random);
+    assert!(past >= 500, "only {past} writes accepted past the end");
+    println!("the same plans and boards: {accepted} writes accepted, {past} of them past the end, {refused} refused");
     println!("{:<22}{:>10}{:>10}{:>8}{:>12}{:>10}{:>8}{:>8}", "", "plan, ns", "plain", "ratio", "perform, ns", "plain", "ratio", "both");
     for job in jobs(&mut random) {
         let once = Instant::now();
