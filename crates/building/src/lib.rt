@@ -8,6 +8,7 @@ use trees::span;
 use words::byte;
 use words::word;
 ghost use mathlib.Core.Path.{_≡_};
+ghost use mathlib.Core.Bool.{false};
 ghost use mathlib.Core.List.{[], _∷_};
 ghost use Prim.Native.Nat.{_+_, _-_, _*_, _^_, _≤_, _<_};
 ghost use lib.ListN.{length, getD};
@@ -155,6 +156,17 @@ fn touched(h: u64, k: u64, n: u64, o: u64, l: u64) -> bool
     n <= span(h)
 }
 
+// The same for a child. `gap` says whether o lies past n in the tree above it: where it does not, as in most writes, only written bytes count.
+fn child_touched(gap: bool, h: u64, k: u64, n: u64, o: u64, l: u64) -> bool
+    requires { ⌜ (h < 8) × (gap ≡ false → o ≤ n) ⌝ }
+    ensures { λ r. ⌜ r ≡ touched 8 h k n o l ⌝ }
+{
+    if gap {
+        return touched(h, k, n, o, l);
+    }
+    l != 0
+}
+
 // Lays the fresh blocks of the tree (h, k, n) with `new` written at o. Answers how many are taken then.
 pub fn build(
     board: &[u64],
@@ -181,6 +193,7 @@ pub fn build(
     }
     let g = h - 1;
     let s = span(g);
+    let gap = n < o;
     let mut page = [0u64; 8];
     let mut taken = c;
     let mut j = 0;
@@ -191,7 +204,7 @@ pub fn build(
         let p = minus(o, first);
         let own = part(new, s, j as u64, o);
         let x = link_on(board, grown, k, j as u64);
-        if touched(g, x / 8, m, p, own.len() as u64) {
+        if child_touched(gap, g, x / 8, m, p, own.len() as u64) {
             taken = build(board, grown, free, plan, base, g, x / 8, m, p, own, taken);
             page[j] = 8 * word(free, taken - 1);
         } else if first < n {

@@ -6,7 +6,7 @@ use native.Mathlib.Omega.{arith}
 use native.Mathlib.Nat.{mul-le-mul}
 use lib.ListN.{length}
 use borrow.Author.Needs.{needs}
-use borrow.Author.Tests.{not-true, not-false}
+use borrow.Author.Tests.{ltb-false, not-true, not-false}
 use borrow.Fn.Kinds.{In, Out}
 use borrow.Fn.PlainCycle.{Measures, is, falls, and}
 use Rattle.words.proofs.word.Reads as word-reads
@@ -21,6 +21,7 @@ use Rattle.building.proofs.Taken as Taken
 use Rattle.building.proofs.Trees as Trees
 use Rattle.building.proofs.build.Kinds as kinds
 use Rattle.building.proofs.build.Reads as build
+use Rattle.building.proofs.child_touched.Reads as child-touched-reads
 use Rattle.building.proofs.minus.Reads as minus-reads
 use Rattle.building.proofs.part.Reads as part-reads
 use Rattle.building.proofs.take.Reads as take-reads
@@ -50,6 +51,8 @@ known t = (
   part-reads.Learnt,
   link-on-reads.Asked,
   link-on-reads.Learnt,
+  child-touched-reads.Asked,
+  child-touched-reads.Learnt,
   below t,
   build.Post,
   word-reads.Asked,
@@ -59,11 +62,11 @@ known t = (
 )
 
 abbrev Inv-loop : lts.InvT-loop
-Inv-loop board grown free plan₀ base h k n o new c g s page₀ taken₀ j₀ plan page taken j =
+Inv-loop board grown free plan₀ base h k n o new c g s gap page₀ taken₀ j₀ plan page taken j =
     (j ≤ 8) × Trees.Children free (onto board grown) (h - 1) k n o new plan₀ base c j plan page taken
 
 abbrev μ-loop : lts.MeasureT-loop
-μ-loop board grown free plan₀ base h k n o new c g s page₀ taken₀ j₀ plan page taken j = 8 - j
+μ-loop board grown free plan₀ base h k n o new c g s gap page₀ taken₀ j₀ plan page taken j = 8 - j
 
 module _ (t : ℕ) where
   abbrev N : (lts.Claims → In 5 kinds.ps → Out 5 kinds.ps kinds.r → lts.InvT-loop → lts.MeasureT-loop → Type 0) → Type 0
@@ -86,6 +89,10 @@ module _ (t : ℕ) where
   mul-first : N lts.Need-mul-first
   mul-first c = omega (arith, mul-le-mul (c .loop-test .taken) (c .before .before .span .ensures .high))
 
+  child-touched-requires : N lts.Need-child-touched-requires
+  child-touched-requires c κs = let e = c .before .before .before .before .before .before .before .before in let a = e .before .before .before .before .before .before .before in
+      (omega (arith, a .pre .1 .0), λ none. omega (arith, ltb-false (a .args .n) (a .args .o) none, c .before .before .before .minus .ensures, c .before .before .minus2 .ensures))
+
   build-requires : N lts.Need-build-requires
   build-requires c κs = let x = c .before .before .before in let l = x .before .before .before .before .before in let e = l .before .before .before in let a = e .before .before .before .before .before .before .before in
       let room = Trees.child-fits (sym (e .before .touched .ensures) ∙ not-false _ (e .if1 .left)) (l .before .before .if2 .left) (l .loop .inv .1) (a .pre .1 .2) (x .before .before .before .before .loop-test .taken)
@@ -93,7 +100,7 @@ module _ (t : ℕ) where
       (omega (arith, a .pre .0, l .before .before .if2 .left), (omega (arith, a .pre .1 .0), a .pre .1 .1, room))
 
   sub-word : N lts.Need-sub-word
-  sub-word c = let f = c .before .before .before .before in Trees.taken-some _ _ _ _ _ _ (sym (f .before .touched2 .ensures) ∙ f .if3 .taken) (c .before .before .build .ensures)
+  sub-word c = let f = c .before .before .before .before in Trees.taken-some _ _ _ _ _ _ (sym (f .before .child-touched .ensures) ∙ f .if3 .taken) (c .before .before .build .ensures)
 
   mul-page : N lts.Need-mul-page
   mul-page c = let l = c .before .before .before .before .before .before .before .before .before .before .before .before in
@@ -103,7 +110,7 @@ module _ (t : ℕ) where
   loop-again : N lts.Need-loop-again
   loop-again c = let x = c .before .before in let l = x .before .before .before .before .before in let inv = l .loop .inv .1 in let less = x .before .before .before .before .loop-test .taken in
       let is = l .before .span .ensures .is in let own = x .before .part .ensures in let old = x .link-on .ensures in
-      let left = x .before .before .before .minus .ensures in let at = x .before .before .minus2 .ensures in let test = sym (c .before .touched2 .ensures) in
+      let left = x .before .before .before .minus .ensures in let at = x .before .before .minus2 .ensures in let test = sym (c .before .child-touched .ensures) in
       ⊎-elim
       (λ w. rw (w .6, w .7, w .8) (omega arith, Trees.fresh-child inv less is own old left at (test ∙ w .0 .taken) (w .2 .ensures) (w .5 .ensures)))
       (⊎-elim
@@ -137,7 +144,7 @@ pub +build-spec : {M : Type 1} → statement M
     (λ c κs. search needs)
     (λ c κs. search needs)
     (λ c κs. search needs)
-    (λ c κs. search needs)
+    (child-touched-requires t)
     (build-requires t)
     (sub-word t)
     (λ c κs. search needs)
