@@ -8,7 +8,7 @@ use trees::span;
 use words::byte;
 use words::word;
 ghost use mathlib.Core.Path.{_≡_};
-ghost use mathlib.Core.Bool.{false};
+ghost use mathlib.Core.Bool.{true, false};
 ghost use mathlib.Core.List.{[], _∷_};
 ghost use Prim.Native.Nat.{_+_, _-_, _*_, _^_, _≤_, _<_};
 ghost use lib.ListN.{length, getD};
@@ -167,7 +167,53 @@ fn child_touched(gap: bool, h: u64, k: u64, n: u64, o: u64, l: u64) -> bool
     l != 0
 }
 
-// Lays the fresh blocks of the tree (h, k, n) with `new` written at o. Answers how many are taken then.
+// Lays the fresh blocks of the tree (h, k, n), its own among them, with `new` written at o. Answers how many are taken then.
+fn build_fresh(
+    board: &[u64],
+    grown: &[u64],
+    free: &[u64],
+    plan: &mut [u64],
+    base: u64,
+    h: u64,
+    k: u64,
+    n: u64,
+    o: u64,
+    new: &[u8],
+    c: u64,
+) -> u64
+    requires { ⌜ (h < 8) × Blocks (now free) × (touched 8 h k n o (length (now new)) ≡ true)
+        × (base + 8 * (c + freshNeed 8 (onto (now board) (now grown)) h k n o (length (now new))) ≤ 2 ^ 32) ⌝ }
+    ensures { λ r. ⌜ Took (now (free .entry)) (now (plan .entry)) base c
+        (build 8 (taking (now (free .entry))) (onto (now (board .entry)) (now (grown .entry))) h k n o (now (new .entry)) c) (now (plan .exit)) r ⌝ }
+{
+    if h == 0 {
+        return take_data(board, grown, free, plan, base, k, n, o, new, c);
+    }
+    let g = h - 1;
+    let s = span(g);
+    let gap = n < o;
+    let mut page = [0u64; 8];
+    let mut taken = c;
+    let mut j = 0;
+    // Child j is the tree (g, x / 8, m), with `own` written at p.
+    while j < 8 {
+        let first = j as u64 * s;
+        let m = minus(n, first);
+        let p = minus(o, first);
+        let own = part(new, s, j as u64, o);
+        let x = link_on(board, grown, k, j as u64);
+        if child_touched(gap, g, x / 8, m, p, own.len() as u64) {
+            taken = build_fresh(board, grown, free, plan, base, g, x / 8, m, p, own, taken);
+            page[j] = 8 * word(free, taken - 1);
+        } else if first < n {
+            page[j] = x;
+        }
+        j += 1;
+    }
+    take(free, plan, base, page, taken)
+}
+
+// Lays the fresh blocks of the tree (h, k, n), of which there may be none, with `new` written at o. Answers how many are taken then.
 pub fn build(
     board: &[u64],
     grown: &[u64],
@@ -188,29 +234,5 @@ pub fn build(
     if !touched(h, k, n, o, new.len() as u64) {
         return c;
     }
-    if h == 0 {
-        return take_data(board, grown, free, plan, base, k, n, o, new, c);
-    }
-    let g = h - 1;
-    let s = span(g);
-    let gap = n < o;
-    let mut page = [0u64; 8];
-    let mut taken = c;
-    let mut j = 0;
-    // Child j is the tree (g, x / 8, m), with `own` written at p.
-    while j < 8 {
-        let first = j as u64 * s;
-        let m = minus(n, first);
-        let p = minus(o, first);
-        let own = part(new, s, j as u64, o);
-        let x = link_on(board, grown, k, j as u64);
-        if child_touched(gap, g, x / 8, m, p, own.len() as u64) {
-            taken = build(board, grown, free, plan, base, g, x / 8, m, p, own, taken);
-            page[j] = 8 * word(free, taken - 1);
-        } else if first < n {
-            page[j] = x;
-        }
-        j += 1;
-    }
-    take(free, plan, base, page, taken)
+    build_fresh(board, grown, free, plan, base, h, k, n, o, new, c)
 }

@@ -6,7 +6,7 @@ use native.Mathlib.Omega.{arith}
 use native.Mathlib.Nat.{mul-le-mul}
 use lib.ListN.{length}
 use borrow.Author.Needs.{needs}
-use borrow.Author.Tests.{ltb-false, not-true, not-false}
+use borrow.Author.Tests.{ltb-false}
 use borrow.Fn.Kinds.{In, Out}
 use borrow.Fn.PlainCycle.{Measures, is, falls, and}
 use Rattle.words.proofs.word.Reads as word-reads
@@ -14,33 +14,30 @@ use Rattle.trees.proofs.span.Reads as span-reads
 use Rattle.model.proofs.Paths.{fresh-pos}
 use Rattle.plans.specs.Laying.{onto}
 use Rattle.plans.proofs.link_on.Reads as link-on-reads
-use Rattle.building.proofs.+build.{statement}
-use Rattle.building.proofs.+build.Lts-build as lts
-use Rattle.building.proofs.+build.Tie.{close}
+use Rattle.building.proofs.+build_fresh.{statement}
+use Rattle.building.proofs.+build_fresh.Lts-build_fresh as lts
+use Rattle.building.proofs.+build_fresh.Tie.{close}
 use Rattle.building.proofs.Taken as Taken
 use Rattle.building.proofs.Trees as Trees
-use Rattle.building.proofs.build.Kinds as kinds
-use Rattle.building.proofs.build.Reads as build
+use Rattle.building.proofs.build_fresh.Kinds as kinds
+use Rattle.building.proofs.build_fresh.Reads as build-fresh
 use Rattle.building.proofs.child_touched.Reads as child-touched-reads
 use Rattle.building.proofs.minus.Reads as minus-reads
 use Rattle.building.proofs.part.Reads as part-reads
 use Rattle.building.proofs.take.Reads as take-reads
 use Rattle.building.proofs.take_data.Reads as take-data-reads
-use Rattle.building.proofs.touched.Reads as touched-reads
 
 abbrev μ : Measures 5 kinds.ps ℕ
 μ κs a = a .1 .1 .1 .1 .1 .0
 
 abbrev at : ℕ → In 5 kinds.ps
-at t = and 5 kinds.ps (is 5 kinds.ps μ t) build.Pre
+at t = and 5 kinds.ps (is 5 kinds.ps μ t) build-fresh.Pre
 
 abbrev below : ℕ → In 5 kinds.ps
-below t = and 5 kinds.ps (falls 5 kinds.ps _<_ μ t) build.Pre
+below t = and 5 kinds.ps (falls 5 kinds.ps _<_ μ t) build-fresh.Pre
 
 abbrev known : ℕ → lts.Claims
 known t = (
-  touched-reads.Asked,
-  touched-reads.Learnt,
   take-data-reads.Asked,
   take-data-reads.Learnt,
   span-reads.Asked,
@@ -54,7 +51,7 @@ known t = (
   child-touched-reads.Asked,
   child-touched-reads.Learnt,
   below t,
-  build.Post,
+  build-fresh.Post,
   word-reads.Asked,
   word-reads.Learnt,
   take-reads.Asked,
@@ -70,18 +67,14 @@ abbrev μ-loop : lts.MeasureT-loop
 
 module _ (t : ℕ) where
   abbrev N : (lts.Claims → In 5 kinds.ps → Out 5 kinds.ps kinds.r → lts.InvT-loop → lts.MeasureT-loop → Type 0) → Type 0
-  N F = F (known t) (at t) build.Post Inv-loop μ-loop
-
-  returns : N lts.Need-returns
-  returns c = Trees.none _ _ _ _ _ _ _ (sym (c .before .touched .ensures) ∙ not-true _ (c .if1 .taken))
+  N F = F (known t) (at t) build-fresh.Post Inv-loop μ-loop
 
   take-data-requires : N lts.Need-take-data-requires
-  take-data-requires c κs = let a = c .before .before .before .before .before .before .before .before .before in let e = c .before .before in let x = a .args in
-      (a .pre .1 .1, omega (arith, a .pre .1 .2, fresh-pos 8 (onto (x .board .now) (x .grown .now)) (x .h) (x .k) (x .n) (x .o) (length (x .new .now)) (sym (e .before .touched .ensures) ∙ not-false _ (e .if1 .left))))
+  take-data-requires c κs = let a = c .before .before .before .before .before .before .before in let x = a .args in
+      (a .pre .1 .1, omega (arith, a .pre .1 .3, fresh-pos 8 (onto (x .board .now) (x .grown .now)) (x .h) (x .k) (x .n) (x .o) (length (x .new .now)) (a .pre .1 .2)))
 
-  returns-2 : N lts.Need-returns-2
-  returns-2 c = let e = c .before .before .before .before .before in
-      Trees.leaf _ _ _ _ _ _ _ (sym (e .before .touched .ensures) ∙ not-false _ (e .if1 .left)) (c .before .before .before .before .if2 .taken) (c .before .before .take-data .ensures)
+  returns : N lts.Need-returns
+  returns c = Trees.leaf _ _ _ _ _ _ _ (c .before .before .before .before .before .before .before .before .before .before .pre .1 .2) (c .before .before .before .before .if1 .taken) (c .before .before .take-data .ensures)
 
   loop-holds : N lts.Need-loop-holds
   loop-holds c = (omega arith, Trees.start)
@@ -90,22 +83,20 @@ module _ (t : ℕ) where
   mul-first c = omega (arith, mul-le-mul (c .loop-test .taken) (c .before .before .span .ensures .high))
 
   child-touched-requires : N lts.Need-child-touched-requires
-  child-touched-requires c κs = let e = c .before .before .before .before .before .before .before .before in let a = e .before .before .before .before .before .before .before in
+  child-touched-requires c κs = let a = c .before .before .before .before .before .before .before .before .before .before .before .before .before in
       (omega (arith, a .pre .1 .0), λ none. omega (arith, ltb-false (a .args .n) (a .args .o) none, c .before .before .before .minus .ensures, c .before .before .minus2 .ensures))
 
-  build-requires : N lts.Need-build-requires
-  build-requires c κs = let x = c .before .before .before in let l = x .before .before .before .before .before in let e = l .before .before .before in let a = e .before .before .before .before .before .before .before in
-      let room = Trees.child-fits (sym (e .before .touched .ensures) ∙ not-false _ (e .if1 .left)) (l .before .before .if2 .left) (l .loop .inv .1) (a .pre .1 .2) (x .before .before .before .before .loop-test .taken)
+  build-fresh-requires : N lts.Need-build-fresh-requires
+  build-fresh-requires c κs = let x = c .before .before .before in let l = x .before .before .before .before .before in let a = l .before .before .before .before .before .before .before .before in
+      let room = Trees.child-fits (a .pre .1 .2) (l .before .before .if1 .left) (l .loop .inv .1) (a .pre .1 .3) (x .before .before .before .before .loop-test .taken)
       (l .before .span .ensures .is) (x .before .part .ensures) (x .link-on .ensures) (x .before .before .before .minus .ensures) (x .before .before .minus2 .ensures) in
-      (omega (arith, a .pre .0, l .before .before .if2 .left), (omega (arith, a .pre .1 .0), a .pre .1 .1, room))
+      (omega (arith, a .pre .0, l .before .before .if1 .left), (omega (arith, a .pre .1 .0), a .pre .1 .1, sym (c .before .before .child-touched .ensures) ∙ c .before .if2 .taken, room))
 
   sub-word : N lts.Need-sub-word
-  sub-word c = let f = c .before .before .before .before in Trees.taken-some _ _ _ _ _ _ (sym (f .before .child-touched .ensures) ∙ f .if3 .taken) (c .before .before .build .ensures)
+  sub-word c = let f = c .before .before .before .before in Trees.taken-some _ _ _ _ _ _ (sym (f .before .child-touched .ensures) ∙ f .if2 .taken) (c .before .before .build-fresh .ensures)
 
   mul-page : N lts.Need-mul-page
-  mul-page c = let l = c .before .before .before .before .before .before .before .before .before .before .before .before in
-      let a = l .before .before .before .before .before .before .before .before .before .before in
-      omega (arith, Taken.block-small _ (a .pre .1 .1) (c .word .ensures))
+  mul-page c = let l = c .before .before .before .before .before .before .before .before .before .before .before .before in let a = l .before .before .before .before .before .before .before .before in omega (arith, Taken.block-small _ (a .pre .1 .1) (c .word .ensures))
 
   loop-again : N lts.Need-loop-again
   loop-again c = let x = c .before .before in let l = x .before .before .before .before .before in let inv = l .loop .inv .1 in let less = x .before .before .before .before .loop-test .taken in
@@ -116,26 +107,24 @@ module _ (t : ℕ) where
       (⊎-elim
       (λ w. rw (w .2, w .3, w .4) (omega arith, Trees.old-child inv less is own old left at (test ∙ w .0 .left) (w .1 .taken)))
       (λ w. rw (w .2, w .3, w .4) (omega arith, Trees.dead-child inv less is own old left at (test ∙ w .0 .left) (w .1 .left))))
-      (c .if3 .came)
+      (c .if2 .came)
 
   take-requires : N lts.Need-take-requires
-  take-requires c κs = let l = c .before .before in let e = l .before .before .before in let a = e .before .before .before .before .before .before .before in
-      (a .pre .1 .1, Trees.node-fits (sym (e .before .touched .ensures) ∙ not-false _ (e .if1 .left)) (l .before .before .if2 .left) (l .loop .inv .1) (a .pre .1 .2) (omega arith) (l .loop .inv .0))
+  take-requires c κs = let l = c .before .before in let a = l .before .before .before .before .before .before .before .before in
+      (a .pre .1 .1, Trees.node-fits (a .pre .1 .2) (l .before .before .if1 .left) (l .loop .inv .1) (a .pre .1 .3) (omega arith) (l .loop .inv .0))
 
   same-length-2 : N lts.Need-same-length-2
   same-length-2 c = c .before .before .take .kept .1 .0 ∙ Taken.same-length (c .before .before .before .before .before .loop .inv .1 .took)
 
-  returns-3 : N lts.Need-returns-3
-  returns-3 c = let l = c .before .before .before .before .before in let e = l .before .before .before in
-      Trees.node (sym (e .before .touched .ensures) ∙ not-false _ (e .if1 .left)) (l .before .before .if2 .left) (l .loop .inv .1) (omega arith) (l .loop .inv .0) (c .before .before .take .ensures)
+  returns-2 : N lts.Need-returns-2
+  returns-2 c = let l = c .before .before .before .before .before in let a = l .before .before .before .before .before .before .before .before in
+      Trees.node (a .pre .1 .2) (l .before .before .if1 .left) (l .loop .inv .1) (omega arith) (l .loop .inv .0) (c .before .before .take .ensures)
 
-pub +build-spec : {M : Type 1} → statement M
-+build-spec = close μ λ t. lts.spec (known t) (at t) build.Post Inv-loop μ-loop
-    (λ c κs. search needs)
-    (returns t)
+pub +build-fresh-spec : {M : Type 1} → statement M
++build-fresh-spec = close μ λ t. lts.spec (known t) (at t) build-fresh.Post Inv-loop μ-loop
     (take-data-requires t)
     (λ c. search needs)
-    (returns-2 t)
+    (returns t)
     (λ c. omega arith)
     (λ c κs. search needs)
     (loop-holds t)
@@ -145,7 +134,7 @@ pub +build-spec : {M : Type 1} → statement M
     (λ c κs. search needs)
     (λ c κs. search needs)
     (child-touched-requires t)
-    (build-requires t)
+    (build-fresh-requires t)
     (sub-word t)
     (λ c κs. search needs)
     (mul-page t)
@@ -158,4 +147,4 @@ pub +build-spec : {M : Type 1} → statement M
     (loop-again t)
     (take-requires t)
     (same-length-2 t)
-    (returns-3 t)
+    (returns-2 t)
