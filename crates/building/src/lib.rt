@@ -1,5 +1,6 @@
-// Fresh trees: the blocks on all paths to written bytes, and to the last byte before them where a gap lies between, laid into a plan. `board` is read with the stores of `grown` performed; `free` lists the free
-// blocks; c counts those taken; `base` is how many pairs of the plan stand for no fresh block.
+// Fresh trees: the blocks on all paths to written bytes, and where these begin past the size, on the path to the last byte below it, laid into a plan.
+// `board` is read with the stores of `grown` performed; `free` lists the free blocks; c counts those taken; `base` is how many pairs of the plan stand
+// for no fresh block.
 use images::decode;
 use images::word_at;
 use plans::block;
