@@ -97,7 +97,7 @@ fn operations() -> Vec<Operation> {
         rewrite("rewrite of 512 bytes", 512),
         rewrite("rewrite of 4,096 bytes", 4096),
         row("two words 96 bytes apart, together", vec![vec![other(SCORES, 48, 8), other(SCORES, 144, 8)]]),
-        one("24-byte entry 240 bytes past the end of the log", &far),
+        one("24-byte entry 240 bytes past the log's end", &far),
         row("the same by a length change and a write", vec![vec![longer], vec![far]]),
     ]
 }

@@ -254,7 +254,7 @@ def null_on_path(vectors, rnd):
 
 def past_the_end(vectors, rnd):
     """Writes past the end of a file whose path to its last byte is null below some height, its other blocks there or not."""
-    for height, size, offset, low in [(0, 64, 65, 0), (0, 64, 4096, 1), (0, 100, 130, 0), (1, 64, 128, 0), (1, 64, 65, 1), (1, 70, 71, 0), (1, 70, 300, 2),
+    for height, size, offset, low in [(0, 64, 65, 0), (0, 64, 4096, 1), (0, 100, 130, 0), (0, 100, 600, 0), (1, 600, 5000, 0), (1, 64, 128, 0), (1, 64, 65, 1), (1, 70, 71, 0), (1, 70, 300, 2),
                                       (2, 512, 513, 0), (2, 512, 1024, 1), (2, 512, 600, 2), (2, 600, 700, 1), (2, 600, 2000, 0), (3, 4096, 4097, 1)]:
         def exists(h, start):
             return h >= low if h == height or start < size <= start + B.SPAN[h] else rnd.random() < 0.2

@@ -44,7 +44,7 @@ pub extern "C" fn montebeech_words_read(
     signed(reading::read(board, file, offset, out))
 }
 
-// Write: plans `bytes` at `offset` of a file and answers the pair count, or -1 to -8.
+// Write: plans `bytes` at `offset` of a file and answers the pair count, or -1, -2, -3, -4, -6, -7, -8.
 #[no_mangle]
 pub extern "C" fn montebeech_words_write(
     board: &[u64],

@@ -40,7 +40,7 @@ module _ (fresh : ℕ → ℕ) where
   used-one q c = zero-add _ ∙ ap (λ (x : ℕ). one q (fresh x)) (add-zero c)
 
 -- the block of a pointer that is 0 where it isn't live
-pub seen-block : (W n w : ℕ) → seen n w / W ≡ seen n (w / W)
+seen-block : (W n w : ℕ) → seen n w / W ≡ seen n (w / W)
 unfolding seen
 seen-block W zero w = zero-div W
 seen-block W (suc n) w = refl

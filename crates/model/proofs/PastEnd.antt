@@ -4,7 +4,7 @@ use mathlib.Core.Logic.{inl, inr}
 use mathlib.Core.List.{List, [], _∷_}
 use Prim.Native.Nat.{ℕ, zero, suc, _+_, _-_, _/_, _%_, _≤_, _<_}
 use native.Mathlib.Omega.{arith}
-use lib.ListN.{length, getD, take}
+use lib.ListN.{length, getD, take, drop}
 use lib.Dec.{T, eqb}
 use borrow.Author.Tests.{lt-ltb, le-ltb, lt-leb, eq-eqb, ne-eqb}
 use Rattle.model.specs.declared.WalkEnd.the-variants.{Hole}
@@ -74,9 +74,9 @@ module _ (g : Layout) (fit : Fits g) (b : List ℕ) (t : T (accepted g b)) (f : 
   pos : 0 < W
   pos = words-pos g fit
 
-  -- on the board that a plan of one step leaves, whose fresh blocks are among those taken
+  -- on the board that a plan of one step leaves, whose fresh blocks, from number c on, are among those taken
   abbrev Past : Plan → Type 0
-  Past p = p .taken ≤ lim → ((i : ℕ) → i < p .taken → T (member (fresh i) taken)) → PastEnd g b (allCommitted b (p .steps)) f o (length new) taken
+  Past p = p .taken ≤ lim → ((i : ℕ) → c ≤ i → i < p .taken → T (member (fresh i) taken)) → PastEnd g b (allCommitted b (p .steps)) f o (length new) taken
 
   empty-hole : size g b f ≡ 0 → (i : ℕ) → walkTo g b f i ≡ Hole
   unfolding walkTo rootWalk
@@ -125,13 +125,13 @@ module _ (g : Layout) (fit : Fits g) (b : List ℕ) (t : T (accepted g b)) (f : 
         pages = leaf-held g fit b t f f-lt o new some small l (omega arith) under most fresh c lim supply room;
       } in
       record {
-        copied = λ z. rw (high, block) (laid-path W pos b fresh b′ end there (λ q. member q taken) among h k n o new c laid l (omega arith) past);
+        copied = λ z. rw (high, block) (laid-path W pos b fresh b′ end there (λ q. member q taken) c among h k n o new c (omega arith) laid l (omega arith) past);
         arrives = λ x. rw (high, block, now, lt-ltb (n - 1) (span W h) within)
             (laid-arrives W pos b fresh b′ end there h k n o new c _ laid l (omega arith) past (omega arith) (rw (lt-ltb (n - 1) (span W h) within) at x));
         holes = rw (high, block) (laid-holes W pos b fresh b′ end there h k n o new c laid (λ z. past));
       }
 
-  pub way-past : Past (way g fresh b f o new c past)
+  way-past : Past (way g fresh b f o new c past)
   way-past = elim (split (size g b f) 0) [
     | inl z ↦ let e : size g b f ≡ 0 = omega arith in rw (empty-way g fresh b f o new c past e some) (past-empty e)
     | inr l ↦ rw (leaf-way g fresh b f o new c past l some) (past-leaf l)
@@ -146,6 +146,14 @@ member-take [] n i u v = absurd (omega arith)
 member-take (x ∷ l) zero i u v = absurd (omega arith)
 member-take (x ∷ l) (suc n) zero u v = or-left (eqb x x) (member x (take n l)) (rw (eq-eqb x x refl) tt)
 member-take (x ∷ l) (suc n) (suc i) u v = or-right (eqb (getD l i 0) x) (member (getD l i 0) (take n l)) (member-take l n i (omega arith) (omega arith))
+
+-- and, from the k-th on, of those after the first k
+member-drop : (l : List ℕ) (n k i : ℕ) → k ≤ i → i < n → i < length l → T (member (getD l i 0) (drop k (take n l)))
+member-drop l n zero i u v w = member-take l n i v w
+member-drop [] n (suc k) i u v w = absurd (omega arith)
+member-drop (x ∷ l) zero (suc k) i u v w = absurd (omega arith)
+member-drop (x ∷ l) (suc n) (suc k) zero u v w = absurd (omega arith)
+member-drop (x ∷ l) (suc n) (suc k) (suc i) u v w = member-drop l n k i (omega arith) (omega arith) (omega arith)
 
 -- judged from a board c on which the file has the same size, and walks that end at a block still do
 past-from : (g : Layout) (b c b′ : List ℕ) (f o l : ℕ) (taken : List ℕ) → size g c f ≡ size g b f
@@ -163,17 +171,21 @@ module _ (g : Layout) (fit : Fits g) (b : List ℕ) (t : T (accepted g b)) (f : 
   abbrev lim : ℕ
   lim = length (free g b)
 
-  among : (n : ℕ) → n ≤ lim → (i : ℕ) → i < n → T (member (fresh i) (take n (free g b)))
+  among : (k n : ℕ) → n ≤ lim → (i : ℕ) → k ≤ i → i < n → T (member (fresh i) (drop k (take n (free g b))))
   unfolding lowest
-  among n le i l = member-take (free g b) n i l (omega arith)
+  among k n le i u l = member-drop (free g b) n k i u l (omega arith)
 
   module _ (new : List ℕ) (some : 0 < length new) (small : Small new) (most : o + length new ≤ greatest g) where
-    abbrev Wanted : Plan → Type 0
-    Wanted p = p .taken ≤ lim → PastEnd g b (allCommitted b (p .steps)) f o (length new) (take (p .taken) (free g b))
+    -- growth p, then the way that follows
+    abbrev whole : Plan → Plan
+    whole p = after g fit b t f f-lt o new some small most p
 
-    no-growth : (0 < size g b f → o + length new ≤ span (g .words) (root g b f % g .words)) → Wanted (after g fit b t f f-lt o new some small most (plan [] 0))
+    abbrev Wanted : Plan → Type 0
+    Wanted p = whole p .taken ≤ lim → PastEnd g b (allCommitted b (whole p .steps)) f o (length new) (drop (p .taken) (take (whole p .taken) (free g b)))
+
+    no-growth : (0 < size g b f → o + length new ≤ span (g .words) (root g b f % g .words)) → Wanted (plan [] 0)
     unfolding plan afterwards planEpochs concat performed
-    no-growth reach room = way-past g fit b t f f-lt o new some small most reach fresh 0 lim (supply-lowest g b) past _ room (among _ room)
+    no-growth reach room = way-past g fit b t f f-lt o new some small most reach fresh 0 lim (supply-lowest g b) past _ room (among 0 _ room)
 
     -- growth keeps walks that end at a block
     walks-kept : 0 < size g b f → span (g .words) (root g b f % g .words) < o + length new → growthTo g fresh b f (least (g .words) (g .height) (o + length new)) .taken ≤ lim
@@ -184,7 +196,7 @@ module _ (g : Layout) (fit : Fits g) (b : List ℕ) (t : T (accepted g b)) (f : 
       | inr within ↦ rw (growth-walks g fit b t f f-lt l fresh lim (supply-lowest g b) (o + length new) most more enough i within) x
     ]
 
-    grows : 0 < size g b f → span (g .words) (root g b f % g .words) < o + length new → Wanted (after g fit b t f f-lt o new some small most (growthTo g fresh b f (least (g .words) (g .height) (o + length new))))
+    grows : 0 < size g b f → span (g .words) (root g b f % g .words) < o + length new → Wanted (growthTo g fresh b f (least (g .words) (g .height) (o + length new)))
     unfolding growthTo plan afterwards allCommitted
     grows l more room =
         let e : ℕ = o + length new in
@@ -196,20 +208,20 @@ module _ (g : Layout) (fit : Fits g) (b : List ℕ) (t : T (accepted g b)) (f : 
         let c : List ℕ = committed b g-step in
         let sizes : size g c f ≡ size g b f = growth-size g fit b t f f-lt l fresh lim lent e most more enough in
         subst (λ (y : List ℕ). let q : Plan = chosenWay g fresh y f (singleBlock g y f o e) o new (p .taken) in
-        q .taken ≤ lim → PastEnd g b (allCommitted c (q .steps)) f o (length new) (take (q .taken) (free g b)))
+        q .taken ≤ lim → PastEnd g b (allCommitted c (q .steps)) f o (length new) (drop (p .taken) (take (q .taken) (free g b))))
         (sym (growth-performed g fresh b f (least (g .words) (g .height) e)))
         (λ enough′. past-from g b c _ f o (length new) _ sizes (walks-kept l more enough)
         (way-past g fit c (growth-good g fit b t f f-lt l fresh lim lent e most more enough .outcome .board) f f-lt o new some small most
         (λ z. growth-reaches g fit b t f f-lt l fresh lim lent e most more enough) fresh (p .taken) lim (growth-supply g fit b t f f-lt l fresh lim lent e most more enough)
-        (rw sizes past) _ enough′ (among _ enough′)))
+        (rw sizes past) _ enough′ (among (p .taken) _ enough′)))
         room
 
-    past-some : Wanted (after g fit b t f f-lt o new some small most (growth g fresh b f (o + length new)))
-    past-some = growth-either g fresh b f (o + length new) (λ p. Wanted (after g fit b t f f-lt o new some small most p)) no-growth grows
+    past-some : Wanted (growth g fresh b f (o + length new))
+    past-some = growth-either g fresh b f (o + length new) Wanted no-growth grows
 
   -- the plan, whatever is written
   plan-past : (new : List ℕ) → Small new → o + length new ≤ greatest g → 0 < length (pairs (writePlan g fresh b f o new)) → writePlan g fresh b f o new .taken ≤ lim
-      → PastEnd g b (allCommitted b (writePlan g fresh b f o new .steps)) f o (length new) (take (writePlan g fresh b f o new .taken) (free g b))
+      → PastEnd g b (allCommitted b (writePlan g fresh b f o new .steps)) f o (length new) (drop (growth g fresh b f (o + length new) .taken) (take (writePlan g fresh b f o new .taken) (free g b)))
   unfolding writePlan plan pairs fenced planEpochs
   plan-past [] small most more room = absurd (omega arith)
   plan-past (x ∷ new) small most more room = past-some (x ∷ new) (omega arith) small most room

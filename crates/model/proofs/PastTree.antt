@@ -176,19 +176,19 @@ module _ (W : ℕ) (pos : 0 < W) (b : List ℕ) (fresh : ℕ → ℕ) (b′ : Li
       | inr laid ↦ inr (laid .0, ap (λ (x : ℕ). x / W) (laid .1) ∙ mul-div-cancel-left _ pos)
     ]
 
-  -- every block on the path to it is one of the fresh ones
-  pub laid-path : (p : ℕ → Bool) → ((i : ℕ) → i < lim → T (p (fresh i))) → (h k n o : ℕ) (new : List ℕ) (c : ℕ) → Laid h k n o new c → 0 < n → n ≤ span W h → n < o
+  -- every block on the path to it is one of the fresh ones, from number first on
+  pub laid-path : (p : ℕ → Bool) (first : ℕ) → ((i : ℕ) → first ≤ i → i < lim → T (p (fresh i))) → (h k n o : ℕ) (new : List ℕ) (c : ℕ) → first ≤ c → Laid h k n o new c → 0 < n → n ≤ span W h → n < o
       → T (all p (path W b′ h (top h k n o new c) (n - 1)))
   unfolding all Last
-  laid-path p ok zero k n o new c w some fits past = rw (path-data W pos b′ (top zero k n o new c) (n - 1) (top-there zero k n o new c w))
-      (and-both (p (top zero k n o new c)) true (ok _ (omega (arith, w .room-for, fresh-pos W b zero k n o (length new) (w .test)))) tt)
-  laid-path p ok (suc h) k n o new c w some fits past =
+  laid-path p first ok zero k n o new c le w some fits past = rw (path-data W pos b′ (top zero k n o new c) (n - 1) (top-there zero k n o new c w))
+      (and-both (p (top zero k n o new c)) true (ok _ (omega (arith, fresh-pos W b zero k n o (length new) (w .test))) (omega (arith, w .room-for, fresh-pos W b zero k n o (length new) (w .test)))) tt)
+  laid-path p first ok (suc h) k n o new c le w some fits past =
       let y : ℕ = below h k n o new c w some fits past in
       rw (path-node W pos b′ h (top (suc h) k n o new c) (n - 1) (top-there (suc h) k n o new c w), kid-last h k n o new c w some fits past)
-      (and-both (p (top (suc h) k n o new c)) (all p (path W b′ h y (m h k n o new c w some fits past - 1))) (ok _ (omega (arith, w .room-for, fresh-pos W b (suc h) k n o (length new) (w .test))))
+      (and-both (p (top (suc h) k n o new c)) (all p (path W b′ h y (m h k n o new c w some fits past - 1))) (ok _ (omega (arith, fresh-pos W b (suc h) k n o (length new) (w .test))) (omega (arith, w .room-for, fresh-pos W b (suc h) k n o (length new) (w .test))))
       (elim (last-either h k n o new c w some fits past) [
         | inl null ↦ rw (null .1, path-null W pos b′ h (m h k n o new c w some fits past - 1)) tt
-        | inr laid ↦ rw (laid .1) (laid-path p ok h _ _ _ _ _ (laid .0) (kid-some h k n o new c w some fits past) (kid-fits h k n o new c w some fits past) (kid-past h k n o new c w some fits past))
+        | inr laid ↦ rw (laid .1) (laid-path p first ok h _ _ _ _ _ (omega arith) (laid .0) (kid-some h k n o new c w some fits past) (kid-fits h k n o new c w some fits past) (kid-past h k n o new c w some fits past))
       ]))
 
   -- and the walk to it still ends at a block, if it did

@@ -1,6 +1,7 @@
 -- What a call answers whose list of faults begins with another's: the other's answer where that is a refusal, else that of the rest. So a call may
 -- ask the other first.
 use mathlib.Core.Path.{_≡_, refl, _∙_}
+use mathlib.Core.Logic.{_≢_}
 use mathlib.Core.Bool.{Bool, true, false, cond}
 use mathlib.Core.List.{[], _∷_, _++_, append-nil}
 use Prim.Native.Nat.{ℕ}
@@ -8,7 +9,8 @@ use native.Mathlib.Omega.{arith}
 use Rattle.model.specs.declared.Answer.{Answer}
 use Rattle.model.specs.declared.Answer.the-variants.{Done, Refused}
 use Rattle.model.specs.declared.Fault.{Fault}
-use Rattle.model.specs.Answers.{Faults, answered, unlessRefused}
+use Rattle.model.specs.declared.Fault.the-variants.{WordCount, Trailer, Damaged, FileNumber, End, FreeBlocks, PlanLength, PairCount, Address}
+use Rattle.model.specs.Answers.{Faults, number, answered, unlessRefused}
 
 asked-first : (fs more : Faults) (v n : ℕ) → answered (fs ++ more) n ≡ unlessRefused (answered fs v) (answered more n) (answered fs v)
 unfolding answered unlessRefused
@@ -42,3 +44,16 @@ module _ (fs : Faults) (v n : ℕ) {r : Answer} (e : r ≡ answered fs v) where
   pub same-done : {w : ℕ} → r ≡ Done w → answered fs n ≡ Done n
   unfolding answered
   same-done z = rw append-nil at (first-done fs [] v n e z)
+
+-- *5 never occurs*
+pub never-five : (f : Fault) → number f ≢ 5
+unfolding number
+never-five WordCount e = absurd (omega arith)
+never-five Trailer e = absurd (omega arith)
+never-five Damaged e = absurd (omega arith)
+never-five FileNumber e = absurd (omega arith)
+never-five End e = absurd (omega arith)
+never-five FreeBlocks e = absurd (omega arith)
+never-five PlanLength e = absurd (omega arith)
+never-five PairCount e = absurd (omega arith)
+never-five Address e = absurd (omega arith)

@@ -1,4 +1,4 @@
--- The ways of planning a write, 3 to 6 of document 01: whichever is chosen, its one step is good.
+-- The ways of planning a write, 3 to 6 of document 01, at any offset: whichever is chosen, its one step is good.
 use mathlib.Core.Path.{_≡_, refl, sym, ap, _∙_}
 use mathlib.Core.Logic.{inl, inr}
 use mathlib.Core.Bool.{Bool, true, false, not, cond, _&&_, _||_, false≢true}

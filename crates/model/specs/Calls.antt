@@ -1,5 +1,5 @@
--- Each call: its refusals in order, its answer, and what it leaves in the slices lent to it. Document 01, 'What each call turns away'.
--- A refusal answers its number and changes nothing.
+-- Each call: its refusals in order, its answer, and what it leaves in the slices lent to it. Document 01, 'What each call turns away',
+-- write's as N3 of document 02 has it. A refusal answers its number and changes nothing.
 use mathlib.Core.Bool.{not, _||_}
 use mathlib.Core.List.{List, [], _∷_, _++_}
 use Prim.Native.Nat.{ℕ, _+_, _-_, _*_, min}

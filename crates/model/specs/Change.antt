@@ -1,5 +1,5 @@
--- How a write and a length change are planned. Document 01, 'How a change is planned': a write of `new`, L bytes, at o; e = o + L, and s is
--- the size. Where c is an argument, c fresh blocks are taken before.
+-- How a write and a length change are planned. Document 01, 'How a change is planned', and N3 of document 02, *Writing past the end*: a write of `new`,
+-- L bytes, at o; e = o + L, and s is the size. Where c is an argument, c fresh blocks are taken before.
 use mathlib.Core.Bool.{Bool, not, cond, _&&_, _||_}
 use mathlib.Core.List.{List, [], _∷_, _++_}
 use Prim.Native.Nat.{ℕ, zero, suc, _+_, _-_, _*_, _/_, _%_, max}

@@ -1,4 +1,4 @@
--- What document 01 promises of these definitions, as statements. All are proved; README says where.
+-- What document 01, and N3 of document 02, promise of these definitions, as statements. All are proved; README says where.
 use mathlib.Core.Path.{_≡_}
 use mathlib.Core.Logic.{_≢_, _⊎_, _↔_}
 use mathlib.Core.Bool.{Bool, false, _&&_}
@@ -17,7 +17,8 @@ use Rattle.model.specs.Store.{Store, store, isBarrier, performed, stores
 use Rattle.model.specs.Hidden.{hidden}
 use Rattle.model.specs.Fresh.{partLength, dataPage, pointerPage}
 use Rattle.model.specs.InPlace.{atBlock}
-use Rattle.model.specs.Calls.{checkAnswer, freeCountAnswer, sizeAnswer, readAnswer, readBuffer, Planned, format, performAnswer}
+use Rattle.model.specs.Change.{growth}
+use Rattle.model.specs.Calls.{checkAnswer, freeCountAnswer, sizeAnswer, readAnswer, readBuffer, Planned, lowest, format, performAnswer}
 use Rattle.model.specs.Cut.{Change, writing, fileOf, called, planFor, planOf, after, Cut, chosen, Names, standing, lastArrived}
 use Rattle.model.specs.Safe.{left, SafePlan, decided}
 
@@ -155,7 +156,7 @@ module _ (W : ℕ) (b : List ℕ) where
       → (s ≤ j * span W h → partLength (span W h) j o l ≡ 0 → link W b k j ≡ 0)
       × NullPast h (link W b k j / W) (s - j * span W h) (o - j * span W h) (partLength (span W h) j o l)
 
--- on b′ file f has been written past its end on b, s bytes: l bytes at o, with the blocks `fresh` taken
+-- on b′ file f has been written past its end on b, s bytes: l bytes at o, with the blocks `fresh` taken after growth
 pub record PastEnd (g : Layout) (b b′ : List ℕ) (f o l : ℕ) (fresh : List ℕ) : Type 0 where
   -- *the path to byte s − 1 is made fresh*
   pub copied : 0 < size g b f → T (all (λ k. member k fresh) (path (g .words) b′ (rootHeight g b′ f) (rootBlock g b′ f) (size g b f - 1)))
@@ -168,7 +169,8 @@ pub record PastEnd (g : Layout) (b b′ : List ℕ) (f o l : ℕ) (fresh : List 
 abbrev pub PastEndRule : Type 0
 PastEndRule = (g : Layout) → Fits g → (b : List ℕ) → T (accepted g b) → (f o : ℕ) (new : Bytes) (slice : List ℕ)
     → let ss : List Store = planOf (called g b (writing f o new) slice) in
-    0 < length ss → size g b f < o → PastEnd g b (performed b (stores ss)) f o (length (new .values)) (take (planFor g b (writing f o new) .taken) (free g b))
+    let grown : ℕ = growth g (lowest g b) b f (o + length (new .values)) .taken in
+    0 < length ss → size g b f < o → PastEnd g b (performed b (stores ss)) f o (length (new .values)) (drop grown (take (planFor g b (writing f o new) .taken) (free g b)))
 
 -- ---- Format
 

@@ -1,5 +1,5 @@
--- A power cut: the calls that the rule speaks of, what a file is to read as, and what stands. Document 01, 'The power-cut rule'. *The cabinet sets a
--- barrier of its own after each plan's last store*, so one plan is looked at by itself.
+-- A power cut: the calls that the rule speaks of, what a file is to read as, and what stands. Document 01, 'The power-cut rule', with
+-- N3 of document 02. *The cabinet sets a barrier of its own after each plan's last store*, so one plan is looked at by itself.
 use mathlib.Core.Bool.{Bool, _&&_}
 use mathlib.Core.List.{List, [], _∷_, _++_}
 use Prim.Native.Nat.{ℕ, suc, _+_, _-_, _<_, max}

@@ -1,4 +1,5 @@
--- The marked set of document 01's bench examples as one table. proofs/Marked.antt proves that every row holds.
+-- The marked set of document 01's bench examples as one table, and writes past the end (N3 of document 02) as another. proofs/Marked.antt proves that
+-- every row holds.
 use mathlib.Core.Bool.{Bool, true, false, _&&_}
 use mathlib.Core.List.{List, [], _∷_, _++_}
 use Prim.Native.Nat.{ℕ, suc, _*_}
@@ -182,18 +183,20 @@ table = E1-rows ++ E2-rows ++ (E3-row ∷ E4-row ∷ E5-row ∷ E6-row ∷ E7-ro
 
 -- ---- Writing past the end
 
--- E10's second part: *the data block there is always copied, with zeros from s on*
-unfoldable pub E10-plan : List ℕ
-E10-plan = filled 88 (1124090433 ∷ replicate 7 0) ++ filled 96 (88 ∷ 4 ∷ replicate 6 0) ++ fence ++ (8 ∷ 96 ∷ [])
+-- E10's second part, w the first word of the copy: *the data block there is always copied, with zeros from s on*
+unfoldable pub pastPlan : ℕ → List ℕ
+pastPlan w = filled 88 (w ∷ replicate 7 0) ++ filled 96 (88 ∷ 4 ∷ replicate 6 0) ++ fence ++ (8 ∷ 96 ∷ [])
 
--- it; then *with L = 0 the plan is still empty*, up to the last offset; *with size 0 the tail way*; a size at a block's edge, after growth; a hole on the
--- path to byte s − 1, after growth
+-- it; the same over an old byte past the size, 66; then *with L = 0 the plan is still empty*, up to the last offset; *with size 0 the tail way*, an old
+-- root in the inode; a size at a block's edge, after growth; holes on the path to byte s − 1, after growth by two levels and by one
 unfoldable pub pastEnd : List Row
-pastEnd = row (E2 ∷ []) (writes 3 (67 ∷ [])) 40 (answers (Done 18) ∷ plans E10-plan ∷ leavesFree 4 ∷ reads (65 ∷ 66 ∷ 0 ∷ 67 ∷ []) ∷ [])
+pastEnd = row (E2 ∷ []) (writes 3 (67 ∷ [])) 40 (answers (Done 18) ∷ plans (pastPlan 1124090433) ∷ leavesFree 4 ∷ reads (65 ∷ 66 ∷ 0 ∷ 67 ∷ []) ∷ [])
+    ∷ row (E2 ∷ setsLength 1 ∷ []) (writes 3 (67 ∷ [])) 40 (answers (Done 18) ∷ plans (pastPlan 1124073537) ∷ leavesFree 4 ∷ reads (65 ∷ 0 ∷ 0 ∷ 67 ∷ []) ∷ [])
     ∷ row (E2 ∷ []) (writes 3 []) 0 (answers (Done 0) ∷ reads (65 ∷ 66 ∷ []) ∷ [])
     ∷ row (E2 ∷ []) (writes 32768 []) 0 (answers (Done 0) ∷ reads (65 ∷ 66 ∷ []) ∷ [])
     ∷ row (E2 ∷ []) (writes 32769 []) 0 (answers (Refused End) ∷ reads (65 ∷ 66 ∷ []) ∷ [])
-    ∷ row [] (writes 100 (7 ∷ [])) 40 (takes 2 ∷ answers (Done 19) ∷ reads (replicate 100 0 ++ (7 ∷ [])) ∷ [])
+    ∷ row (E2 ∷ setsLength 0 ∷ []) (writes 100 (7 ∷ [])) 40 (takes 2 ∷ answers (Done 19) ∷ reads (replicate 100 0 ++ (7 ∷ [])) ∷ [])
     ∷ record { blocksOf = 24; first = writes 0 (replicate 64 1) ∷ []; call = writes 65 (7 ∷ []); room = 90; seenThen = takes 5 ∷ answers (Done 45) ∷ reads (replicate 64 1 ++ (0 ∷ 7 ∷ [])) ∷ [] }
+    ∷ record { blocksOf = 24; first = E2 ∷ setsLength 100 ∷ []; call = writes 600 (7 ∷ []); room = 130; seenThen = takes 7 ∷ answers (Done 61) ∷ leavesFree 8 ∷ [] }
     ∷ row (E2 ∷ setsLength 100 ∷ []) (writes 130 (7 ∷ [])) 80 (takes 4 ∷ answers (Done 37) ∷ leavesFree 2 ∷ reads ((65 ∷ 66 ∷ replicate 128 0) ++ (7 ∷ [])) ∷ [])
     ∷ []

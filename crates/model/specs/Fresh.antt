@@ -48,8 +48,8 @@ module _ (W : ℕ) where
   unfoldable pub need : ℕ → ℕ → ℕ → ℕ
   need h o l = freshNeed [] h 0 0 o l
 
-  -- word j of the data block k, of which n bytes lie below the size, with `new` written at o. *A fresh file block holds what is
-  -- visible: bytes at or past the new size are 0*
+  -- word j of the data block k, of which n bytes lie below the old size, with `new` written at o. *A fresh file block holds what is visible*: bytes at
+  -- or past the old size that are not written are 0, *with zeros from s on*
   unfoldable pub dataPage : List ℕ → ℕ → ℕ → ℕ → List ℕ → Page
   dataPage b k n o new j = wordOf 8 (λ i. splice o new (seen (n - (8 * j + i)) (byteOf (link W b k j) i)) (8 * j + i))
 

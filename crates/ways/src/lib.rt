@@ -30,7 +30,7 @@ ghost use Rattle.building.specs.Taking.{taking};
 ghost use Rattle.growing.specs.Planned.{PlanLaid};
 ghost use Rattle.ways.specs.Planning.{Descended, Ready, leafCopy};
 
-// A write into an empty file. Before o it is a hole.
+// A write into an empty file, at any offset: bytes before o read 0, and pointers that lead to none of the new bytes are null.
 fn fill_empty(
     board: &[u64],
     grown: &[u64],
@@ -222,7 +222,7 @@ fn leaf_words(board: &[u64], grown: &[u64], at: u64, root: u64, size: u64) -> [u
     page
 }
 
-// A write past the size, committed at the inode pointer.
+// A write that ends past the size, committed at the inode pointer.
 fn shadow_with_length(
     board: &[u64],
     grown: &[u64],
