@@ -32,7 +32,7 @@ use Rattle.model.proofs.GoodSteps.{GoodStep, GoodSteps}
 use Rattle.model.proofs.Taking.{Takes, blocksOf, takes-blocks, steps-blocks, in-place-live}
 use Rattle.model.proofs.SizeWays.{shorten-good, lengthen-empty-good, lengthen-good}
 use Rattle.model.proofs.GrowthWay.{growthStep, growth-performed, growth-takes, growth-counts, growth-either, growth-good, growth-size, growth-reaches, growth-supply}
-use Rattle.model.proofs.Ways.{length-contents, rewritten, lengthened, spliced-cuts, spliced-lengthens, OneStep, way-good, taken-from}
+use Rattle.model.proofs.Ways.{length-contents, lengthened, spliced-cuts, spliced-lengthens, OneStep, way-good, taken-from}
 
 -- ---- Good plans
 
@@ -163,7 +163,7 @@ module _ (g : Layout) (fit : Fits g) (b : List ℕ) (t : T (accepted g b)) (f : 
     way c k = chosenWay g fresh c f (singleBlock g c f o (o + length new)) o new k
 
     abbrev wanted : List ℕ
-    wanted = rewritten g fit b f o new
+    wanted = overwritten o new (contents g b f)
 
     abbrev Wanted : Plan → Type 0
     Wanted p = p .taken ≤ lim → GoodPlan g b f wanted p

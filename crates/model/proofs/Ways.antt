@@ -6,7 +6,7 @@ use mathlib.Core.List.{List, [], _∷_, _++_, append-nil}
 use Prim.Native.Nat.{ℕ, zero, suc, _+_, _-_, _/_, _%_, _≤_, _<_, max}
 use native.Mathlib.Omega.{arith}
 use native.Mathlib.Nat.{add-zero}
-use lib.ListN.{length, take, drop, replicate}
+use lib.ListN.{length, take, replicate}
 use lib.Dec.{T, leb, eqb}
 use borrow.Author.Tests.{le-leb, lt-leb, eq-eqb, ne-eqb, eqb-true}
 use Rattle.model.specs.declared.WalkEnd.the-variants.{Block, Hole}
@@ -20,6 +20,7 @@ use Rattle.model.specs.Plan.{Plan, plan, Step, step}
 use Rattle.model.specs.Fresh.{Page, stored, freshPointer}
 use Rattle.model.specs.InPlace.{atBlock, walkLive, tailPages, inPlace}
 use Rattle.model.specs.Change.{singleBlock, singleWord, isTail, emptyTail, tail, shadowInside, shadowWithLength, chosenWay}
+use Rattle.model.specs.Cut.{overwritten}
 use Rattle.model.proofs.Cases.{split, decide, true-left, true-right}
 use Rattle.model.proofs.Counting.{occ}
 use Rattle.model.proofs.Perform.{All, length-tabulate}
@@ -49,12 +50,10 @@ module _ (g : Layout) (fit : Fits g) (b : List ℕ) (f : ℕ) where
   length-contents = ap (λ (l : List ℕ). length l) contents-are ∙ length-tabulate (size g b f) bytes
 
   -- what a write of `new` at o makes of it
-  abbrev pub rewritten : ℕ → List ℕ → List ℕ
-  rewritten o new = take o (contents g b f) ++ replicate (o - length (contents g b f)) 0 ++ new ++ drop (o + length new) (contents g b f)
-
-  pub spliced-writes : (o : ℕ) (new : List ℕ) (m : ℕ) → m ≡ max (size g b f) (o + length new) → spliced g b f o new m ≡ rewritten o new
-  unfolding bytes
-  spliced-writes o new m e = rw (e, length-contents, contents-are) (spliced-write (size g b f) bytes o new)
+  pub spliced-writes : (o : ℕ) (new : List ℕ) → 0 < length new → (m : ℕ) → m ≡ max (size g b f) (o + length new) → spliced g b f o new m ≡ overwritten o new (contents g b f)
+  unfolding bytes overwritten
+  spliced-writes o [] some m e = absurd (omega arith)
+  spliced-writes o (x ∷ new) some m e = rw (e, length-contents, contents-are) (spliced-write (size g b f) bytes o (x ∷ new))
 
   -- what a length change to n makes of it
   abbrev pub lengthened : ℕ → List ℕ
@@ -81,7 +80,7 @@ module _ (g : Layout) (fit : Fits g) (b : List ℕ) (t : T (accepted g b)) (f : 
     (most : o + length new ≤ greatest g) (reach : 0 < size g b f → o + length new ≤ span (g .words) (root g b f % g .words))
     (fresh : ℕ → ℕ) (c lim : ℕ) (supply : Supply g b fresh c lim) where
   abbrev wanted : List ℕ
-  wanted = rewritten g fit b f o new
+  wanted = overwritten o new (contents g b f)
 
   abbrev Good : Plan → Type 0
   Good p = p .taken ≤ lim → OneStep g b f fresh c wanted p
@@ -89,7 +88,7 @@ module _ (g : Layout) (fit : Fits g) (b : List ℕ) (t : T (accepted g b)) (f : 
   -- one that leaves m bytes
   one-good : (s : Step) (m c′ : ℕ) → m ≡ max (size g b f) (o + length new) → GoodStep g b f s (spliced g b f o new m) → Takes g b fresh c c′ s → OneStep g b f fresh c wanted (plan (s ∷ []) c′)
   unfolding plan
-  one-good s m c′ e y k = record { only = s; steps-are = refl; good = rw (spliced-writes g fit b f o new m e) at y; takes = k }
+  one-good s m c′ e y k = record { only = s; steps-are = refl; good = rw (spliced-writes g fit b f o new some m e) at y; takes = k }
 
   -- a word of the file's inode lies in a live block
   inode-live-at : (a : ℕ) → a / g .words ≡ leaf g b (f / g .inodes) → 0 < occ (a / g .words) (liveBlocks g b)
