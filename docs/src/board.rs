@@ -230,8 +230,16 @@ pub fn free_blocks(board: &[u64]) -> Vec<u64> {
     (1..block_count(board) - 1).filter(|&block| live.get(block as usize) == Some(&false)).collect()
 }
 
+/// N1: "every live block of the file, data and pointers", found by walking its tree. It marks as `live_blocks` does,
+/// but this file's blocks alone, so the inode pointer block and the inode leaves aren't among them.
+pub fn held_blocks(board: &[u64], inode: Inode) -> u64 {
+    let mut held = vec![false; block_count(board) as usize];
+    let reached = reach_file(board, &mut held, inode); // Never `None` on an accepted board.
+    reached.map_or(0, |()| held.iter().filter(|&&marked| marked).count() as u64)
+}
+
 /// Where the walk to a byte ends.
-#[derive(Clone, Copy, PartialEq)]
+#[derive(Clone, Copy)]
 pub enum Place {
     /// At the data block of this number.
     Block(u64),
@@ -262,10 +270,4 @@ pub fn byte_at(board: &[u64], place: Place, position: u64) -> u8 {
         Place::Block(block) => byte(board, block, position % BLOCK_BYTES),
         Place::Hole => 0,
     }
-}
-
-/// How many live data blocks a file has: each is where the walk to the first byte of its span ends.
-pub fn data_blocks(board: &[u64], inode: Inode) -> u64 {
-    let starts = (0..inode.size).step_by(BLOCK_BYTES as usize);
-    starts.filter(|&start| walk(board, inode, start) != Place::Hole).count() as u64
 }

@@ -1,7 +1,7 @@
 //! Board images held as bytes: their decoding, the calls that the cabinet's C program makes on them, and the text that
 //! the lister prints.
 
-use crate::board::{block_count, data_blocks, inode, FILES};
+use crate::board::{block_count, held_blocks, inode, FILES};
 use crate::calls;
 
 /// The lister refuses an image of more bytes than this.
@@ -57,12 +57,13 @@ fn accepted_listing(image: &[u8]) -> Result<String, u64> {
     Ok(format!("blocks {} free {free}\n{files}", block_count(&board)))
 }
 
-/// The line of a file: "number, size, root's height, live data blocks"; nothing for a file of size 0.
+/// The line of a file: "number, size, root's height", then as N1 says "the column is headed held and counts every live
+/// block of the file, data and pointers"; nothing for a file of size 0.
 fn file_line(board: &[u64], file: u64) -> String {
     let inode = inode(board, file);
     if inode.size == 0 {
         return String::new();
     }
-    let (size, height, data) = (inode.size, inode.tree().height, data_blocks(board, inode));
-    format!("file {file} size {size} height {height} data {data}\n")
+    let (size, height, held) = (inode.size, inode.tree().height, held_blocks(board, inode));
+    format!("file {file} size {size} height {height} held {held}\n")
 }

@@ -1,5 +1,5 @@
-"""A model of the cabinet memory board in Python, from document 01 and N3 of document 02 (docs/DECISIONS.md says how far apart from
-the definitions).
+"""A model of the cabinet memory board in Python, from document 01 and N1 and N3 of document 02 (docs/DECISIONS.md says how far apart
+from the definitions).
 
 It surveys a board into dictionaries and plans with explicit loops, where the definitions in crates/model recurse, so that an error is
 not likely to be made twice. Answers are numbers, a refusal r is -r. vectors.py holds the definitions against it.
@@ -113,6 +113,10 @@ class Survey:
     def data(self, file):
         return {what[2]: block for block, what in self.blocks.items() if what[:2] == ('data', file)}
 
+    def held(self, file):
+        """The live blocks of the file, pointer blocks and data blocks."""
+        return [block for block, what in self.blocks.items() if what[0] in ('node', 'data') and what[1] == file]
+
     def contents(self, file):
         out = [0] * self.size[file]
         for base, block in self.data(file).items():
@@ -192,7 +196,7 @@ def listing(image):
     for file in range(32):
         if survey.size[file]:
             height = survey.board[survey.inode(file)] % 8
-            lines.append('file %d size %d height %d data %d\n' % (file, survey.size[file], height, len(survey.data(file))))
+            lines.append('file %d size %d height %d held %d\n' % (file, survey.size[file], height, len(survey.held(file))))
     return ''.join(lines)
 
 

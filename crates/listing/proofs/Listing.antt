@@ -12,11 +12,11 @@ use Rattle.model.specs.declared.Fault.{Fault}
 use Rattle.model.specs.Lists.{joined}
 use Rattle.model.specs.Layout.{house, files}
 use Rattle.model.specs.Tree.{live}
-use Rattle.model.specs.Board.{blockCount, root, size, free, wordCountSound}
+use Rattle.model.specs.Board.{rootBlocks, blockCount, root, size, fileBlocks, free, wordCountSound}
 use Rattle.model.specs.Answers.{number, answered}
 use Rattle.model.specs.Calls.{wordCountFault, boardFaults, checkAnswer, freeCountAnswer}
-use Rattle.model.specs.Lister.{field, line, fileLine, boardLines, answerLines, listing}
-use Rattle.model.specs.Lister.{word-blocks, word-free, word-file, word-size, word-height, word-data, word-refused}
+use Rattle.model.specs.Lister.{field, line, heldCount, fileLine, boardLines, answerLines, listing}
+use Rattle.model.specs.Lister.{word-blocks, word-free, word-file, word-size, word-height, word-held, word-refused}
 use Rattle.model.proofs.Refusals.{same-refused, same-done}
 use Rattle.model.proofs.Trees.{live-some}
 use Rattle.trees.specs.Trees.{Counted}
@@ -33,9 +33,9 @@ module _ (b : List ℕ) (f : ℕ) {n p : ℕ} {out : List ℕ} (es : n ≡ size 
   no-line z = rw (← es, z) (loose (omega arith) none)
 
   pub one-line : {w d r : ℕ} {out′ : List ℕ} → (n ≡ 0 → ⊥) → w ≡ root house b f → Counted b (w % 8) (w / 8) n d →
-      Wrote 106 (line word-file f (field word-size n ++ field word-height (w % 8) ++ field word-data d)) p out r out′ →
+      Wrote 106 (line word-file f (field word-size n ++ field word-height (w % 8) ++ field word-held d)) p out r out′ →
       Wrote 106 (fileLine house b f) p out r out′
-  unfolding fileLine
+  unfolding fileLine heldCount fileBlocks rootBlocks
   one-line z er c a = rw (← es, live-some n (omega (arith, z)), ← er, ← c .is) a
 
 -- the lines of the first f files

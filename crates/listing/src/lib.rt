@@ -21,8 +21,8 @@ fn file(board: &[u64], out: &mut [u8], p: usize, f: u64) -> usize
     }
     let root = boards::root(board, f);
     let height = root % 8;
-    let data = trees::data_blocks(board, height, root / 8, n);
-    text::file_line(out, p, f, n, height, data)
+    let held = trees::held_count(board, height, root / 8, n);
+    text::file_line(out, p, f, n, height, held)
 }
 
 // The lines of the files.

@@ -5,13 +5,17 @@ use mathlib.Core.Bool.{Bool, true, false, not, true≢false}
 use mathlib.Core.List.{List, [], _∷_}
 use Prim.Native.Nat.{ℕ, zero, suc, _+_, _-_, _≤_, _<_}
 use native.Mathlib.Omega.{arith}
-use lib.ListN.{length, getD}
+use lib.ListN.{length, length-append, getD}
 use borrow.Author.Tests.{eq-eqb, ne-eqb, not-true}
-use Rattle.model.specs.Lists.{consIf, pickFrom, member}
-use Rattle.model.specs.Layout.{Layout}
-use Rattle.model.specs.Board.{blockCount, liveBlocks, free}
-use Rattle.model.specs.Claims.{CensusRule}
-use Rattle.model.proofs.Cases.{split, decide, either}
+use Rattle.model.specs.Lists.{tabulate, joined, sum, consIf, pickFrom, member}
+use Rattle.model.specs.Layout.{Layout, house, files}
+use Rattle.model.specs.Board.{blockCount, leaf, rootHeight, rootBlock, rootBlocks, fileBlocks, liveBlocks, free}
+use Rattle.model.specs.Lister.{heldCount}
+use Rattle.model.specs.Claims.{CensusRule, HeldRule, HouseHeldRule}
+use Rattle.model.proofs.Cases.{split, decide, either, length-joined}
+use Rattle.model.proofs.Perform.{length-tabulate}
+use Rattle.model.proofs.Trees.{blocks-dead}
+use Rattle.model.proofs.Formatted.{house-fits}
 use Rattle.model.proofs.Counting.{occ, one-same, member-none, member-some}
 use Rattle.model.proofs.Accepting.{Facts, facts}
 use Rattle.model.proofs.Ranges.{live-range}
@@ -188,3 +192,23 @@ census g fit b t =
       others-count 1 (blockCount g b - 2) (liveBlocks g b) (a .once) (λ q o. let r = live-range g fit b a q o in (r .0, omega (arith, r .0, r .1))),
       a .sizes .blocks-least,
     )
+
+-- ---- What the files hold
+
+-- the live blocks are those that the files hold, the leaves and the inode pointer block
+live-count : (g : Layout) (b : List ℕ) → length (liveBlocks g b) ≡ 1 + g .leaves + sum (files g) (heldCount g b)
+unfolding liveBlocks heldCount
+live-count g b =
+    let joins = joined (files g) (fileBlocks g b) in
+    omega (arith, length-append (tabulate (g .leaves) (leaf g b)) joins, length-tabulate (g .leaves) (leaf g b), length-joined (files g) (fileBlocks g b))
+
+pub held-all : HeldRule
+unfolding heldCount fileBlocks rootBlocks
+held-all g fit b t = (
+  omega (arith, census g fit b t, live-count g b),
+  λ f e. rw (e, blocks-dead (g .words) b (rootHeight g b f) (rootBlock g b f)),
+)
+
+pub house-held : HouseHeldRule
+unfolding files
+house-held b t = omega (arith, held-all house house-fits b t .0)

@@ -14,7 +14,7 @@ use Rattle.model.specs.Format.{inodePage, formatPages, trailerAddress, t
 use Rattle.model.specs.Answers.{number, signed, answered, unlessRefused, counted}
 use Rattle.model.specs.Calls.{wordCountFault, boardFaults, fileFaults, checkAnswer, freeCountAnswer, sizeAnswer, readCount, readAnswer, readBuffer, planned, lowest, writeFaults, write, setLength, format, performFaults, performAnswer, performBoard}
 use Rattle.model.specs.Cabinet.{imageFaults, imageCheckAnswer, imageCheck, imageSize, imageReadAnswer, imageRead, imageReadBuffer}
-use Rattle.model.specs.Lister.{dataBlocks, digits, decimal, field, line, fileLine, boardLines, answerLines, listing}
+use Rattle.model.specs.Lister.{digits, decimal, field, line, heldCount, fileLine, boardLines, answerLines, listing}
 use Rattle.model.specs.Cut.{fileOf, called, planOf, overwritten, altered, after, chosen, standing, lastArrived}
 
 unfoldable pub computes : Unit {0}
@@ -33,6 +33,6 @@ unfolding tabulate joined sum every some all consIf filter concat pickFrom membe
     number signed answered unlessRefused counted
     wordCountFault boardFaults fileFaults checkAnswer freeCountAnswer sizeAnswer readCount readAnswer readBuffer planned lowest writeFaults write setLength format performFaults performAnswer performBoard
     imageFaults imageCheckAnswer imageCheck imageSize imageReadAnswer imageRead imageReadBuffer
-    dataBlocks digits decimal field line fileLine boardLines answerLines listing
+    digits decimal field line heldCount fileLine boardLines answerLines listing
     fileOf called planOf overwritten altered after chosen standing lastArrived
 computes = tt

@@ -10,9 +10,8 @@ use native.Mathlib.Nat.{zero-sub, zero-div}
 use native.Mathlib.Numerals.{sub-one}
 use lib.Dec.{ltb}
 use Rattle.model.specs.declared.WalkEnd.the-variants.{Block, Hole}
-use Rattle.model.specs.Lists.{every, joined, sum}
+use Rattle.model.specs.Lists.{every, joined}
 use Rattle.model.specs.Tree.{live, ending, span, aligned, cell, link, walk, blocks, sound}
-use Rattle.model.specs.Lister.{dataBlocks}
 
 pub live-some : (n : ℕ) → 0 < n → live n ≡ true
 unfolding live
@@ -32,9 +31,6 @@ module _ (W : ℕ) (b : List ℕ) (h k n j : ℕ) where
   abbrev pub childSound : ℕ → Bool
   childSound top = aligned W (n - j * span W h) (cell W b k j) && sound W b top h (cell W b k j / W) (n - j * span W h)
 
-  abbrev pub childData : ℕ
-  childData = dataBlocks W b h (cell W b k j / W) (n - j * span W h)
-
 -- what lies beneath block k, of height h
 module _ (W : ℕ) (b : List ℕ) (k n : ℕ) where
   abbrev pub blocksUnder : ℕ → List ℕ
@@ -45,10 +41,6 @@ module _ (W : ℕ) (b : List ℕ) (k n : ℕ) where
   soundUnder top zero = true
   soundUnder top (suc h) = every W (λ j. childSound W b h k n j top)
 
-  abbrev pub dataUnder : ℕ → ℕ
-  dataUnder zero = 1
-  dataUnder (suc h) = sum W (childData W b h k n)
-
   -- above height 0 these are its children
   pub blocks-children : (h : ℕ) → h ≢ 0 → blocksUnder h ≡ joined W (childBlocks W b (h - 1) k n)
   blocks-children zero f = absurd (f refl)
@@ -57,10 +49,6 @@ module _ (W : ℕ) (b : List ℕ) (k n : ℕ) where
   pub sound-children : (top h : ℕ) → h ≢ 0 → soundUnder top h ≡ every W (λ j. childSound W b (h - 1) k n j top)
   sound-children top zero f = absurd (f refl)
   sound-children top (suc h) f = rw sub-one
-
-  pub data-children : (h : ℕ) → h ≢ 0 → dataUnder h ≡ sum W (childData W b (h - 1) k n)
-  data-children zero f = absurd (f refl)
-  data-children (suc h) f = rw sub-one
 
 module _ (W : ℕ) (b : List ℕ) where
   -- not live
@@ -84,13 +72,6 @@ module _ (W : ℕ) (b : List ℕ) where
   sound-dead top (suc h) zero = refl
   sound-dead top (suc h) (suc k) = refl
 
-  pub data-dead : (h k : ℕ) → dataBlocks W b h k 0 ≡ 0
-  unfolding dataBlocks
-  data-dead zero zero = refl
-  data-dead zero (suc k) = refl
-  data-dead (suc h) zero = refl
-  data-dead (suc h) (suc k) = refl
-
   -- null
   pub walk-null : (h n i : ℕ) → walk W b h 0 n i ≡ Hole
   unfolding walk ending link
@@ -106,11 +87,6 @@ module _ (W : ℕ) (b : List ℕ) where
   unfolding sound
   sound-null top zero n = refl
   sound-null top (suc h) n = refl
-
-  pub data-null : (h n : ℕ) → dataBlocks W b h 0 n ≡ 0
-  unfolding dataBlocks
-  data-null zero n = refl
-  data-null (suc h) n = refl
 
   -- a live block
   pub walk-here : (k n i : ℕ) → n ≢ 0 → k ≢ 0 → walk W b 0 k n i ≡ Block k
@@ -139,10 +115,3 @@ module _ (W : ℕ) (b : List ℕ) where
   sound-here top h zero (suc n) live there = absurd (there refl)
   sound-here top zero (suc k) (suc n) live there = sym (and-true (ltb (suc k) top))
   sound-here top (suc h) (suc k) (suc n) live there = refl
-
-  pub data-here : (h k n : ℕ) → n ≢ 0 → k ≢ 0 → dataBlocks W b h k n ≡ dataUnder W b k n h
-  unfolding dataBlocks
-  data-here h k zero live there = absurd (live refl)
-  data-here h zero (suc n) live there = absurd (there refl)
-  data-here zero (suc k) (suc n) live there = refl
-  data-here (suc h) (suc k) (suc n) live there = refl

@@ -1,4 +1,4 @@
--- What document 01, and N3 of document 02, promise of these definitions, as statements. All are proved; README says where.
+-- What document 01, and N1 and N3 of document 02, promise of these definitions, as statements. All are proved; README says where.
 use mathlib.Core.Path.{_≡_}
 use mathlib.Core.Logic.{_≢_, _⊎_, _↔_}
 use mathlib.Core.Bool.{Bool, false, _&&_}
@@ -8,9 +8,9 @@ use lib.ListN.{length, getD, take, drop}
 use lib.Dec.{T, leb}
 use Rattle.model.specs.declared.Answer.the-variants.{Refused}
 use Rattle.model.specs.declared.Fault.the-variants.{Trailer}
-use Rattle.model.specs.Lists.{all, member, distinct}
+use Rattle.model.specs.Lists.{sum, all, member, distinct}
 use Rattle.model.specs.Words.{byteOf, Bytes}
-use Rattle.model.specs.Layout.{Layout, Fits, files}
+use Rattle.model.specs.Layout.{Layout, Fits, house, files}
 use Rattle.model.specs.Tree.{span, cell, link}
 use Rattle.model.specs.Board.{blockCount, trailer, rootHeight, rootBlock, size, walkTo, contents, liveBlocks, free, inRange, accepted, wordCountSound}
 use Rattle.model.specs.Store.{Store, store, isBarrier, performed, stores, epochs}
@@ -19,6 +19,7 @@ use Rattle.model.specs.Fresh.{partLength, dataPage, pointerPage}
 use Rattle.model.specs.InPlace.{atBlock}
 use Rattle.model.specs.Change.{growth}
 use Rattle.model.specs.Calls.{checkAnswer, freeCountAnswer, sizeAnswer, readAnswer, readBuffer, Planned, lowest, format, performAnswer}
+use Rattle.model.specs.Lister.{heldCount}
 use Rattle.model.specs.Cut.{Change, writing, fileOf, called, planFor, planOf, after, Cut, chosen, Names, standing, lastArrived}
 use Rattle.model.specs.Safe.{left, SafePlan, decided}
 
@@ -66,6 +67,15 @@ FreshBlockRule = (W : ℕ) (b : List ℕ) (k n o : ℕ) (new : Bytes)
 -- the live blocks, the free blocks, block 0 and the trailer make B
 abbrev pub CensusRule : Type 0
 CensusRule = (g : Layout) → Fits g → (b : List ℕ) → T (accepted g b) → length (liveBlocks g b) + length (free g b) + 2 ≡ blockCount g b
+
+-- *all files' held counts, the free count*, the leaves, the inode pointer block, block 0 and the trailer *make B*; a file that the lister leaves out holds none
+abbrev pub HeldRule : Type 0
+HeldRule = (g : Layout) → Fits g → (b : List ℕ) → T (accepted g b)
+    → (sum (files g) (heldCount g b) + length (free g b) + g .leaves + 3 ≡ blockCount g b) × ((f : ℕ) → size g b f ≡ 0 → heldCount g b f ≡ 0)
+
+-- *and 11 make B*
+abbrev pub HouseHeldRule : Type 0
+HouseHeldRule = (b : List ℕ) → T (accepted house b) → sum 32 (heldCount house b) + length (free house b) + 11 ≡ blockCount house b
 
 -- ---- Block 0: *what it holds decides no answer*; that *no plan stores to it* is in the rules above
 

@@ -1,28 +1,18 @@
--- What the lister program prints, as bytes. Document 01, E13.
+-- What the lister program prints, as bytes. Document 01, E13, with the column of N1 of document 02.
 use mathlib.Core.Bool.{cond}
 use mathlib.Core.List.{List, [], _∷_, _++_}
-use Prim.Native.Nat.{ℕ, zero, suc, _+_, _-_, _*_, _/_, _%_}
+use Prim.Native.Nat.{ℕ, zero, suc, _+_, _/_, _%_}
 use lib.ListN.{length}
 use lib.Dec.{ltb}
 use Rattle.model.specs.declared.Answer.{Answer}
 use Rattle.model.specs.declared.Answer.the-variants.{Done, Refused}
-use Rattle.model.specs.Lists.{joined, sum}
+use Rattle.model.specs.Lists.{joined}
 use Rattle.model.specs.Words.{wordsOf}
 use Rattle.model.specs.Layout.{Layout, files}
-use Rattle.model.specs.Tree.{live, span, cell}
-use Rattle.model.specs.Board.{blockCount, rootHeight, rootBlock, size, free}
+use Rattle.model.specs.Tree.{live}
+use Rattle.model.specs.Board.{blockCount, rootHeight, size, fileBlocks, free}
 use Rattle.model.specs.Answers.{number}
 use Rattle.model.specs.Cabinet.{imageCheckAnswer}
-
-module _ (W : ℕ) (b : List ℕ) where
-  -- the *live data blocks* of the tree (h, k, n), counted
-  unfoldable pub dataBlocks : ℕ → ℕ → ℕ → ℕ
-  dataBlocks zero zero n = 0
-  dataBlocks zero (suc k) zero = 0
-  dataBlocks zero (suc k) (suc n) = 1
-  dataBlocks (suc h) zero n = 0
-  dataBlocks (suc h) (suc k) zero = 0
-  dataBlocks (suc h) (suc k) (suc n) = sum W (λ j. dataBlocks h (cell W b (suc k) j / W) (suc n - j * span W h))
 
 -- a number of at most `most` + 1 digits, in decimal
 unfoldable pub digits : ℕ → ℕ → List ℕ
@@ -57,17 +47,21 @@ word-size = 115 ∷ 105 ∷ 122 ∷ 101 ∷ []
 abbrev pub word-height : List ℕ
 word-height = 104 ∷ 101 ∷ 105 ∷ 103 ∷ 104 ∷ 116 ∷ []
 
-abbrev pub word-data : List ℕ
-word-data = 100 ∷ 97 ∷ 116 ∷ 97 ∷ []
+abbrev pub word-held : List ℕ
+word-held = 104 ∷ 101 ∷ 108 ∷ 100 ∷ []
 
 abbrev pub word-refused : List ℕ
 word-refused = 114 ∷ 101 ∷ 102 ∷ 117 ∷ 115 ∷ 101 ∷ 100 ∷ []
 
 module _ (g : Layout) (b : List ℕ) where
-  -- *each file of size above 0: number, size, root's height, live data blocks*
+  -- *every live block of the file, data and pointers*, counted
+  unfoldable pub heldCount : ℕ → ℕ
+  heldCount f = length (fileBlocks g b f)
+
+  -- *each file of size above 0: number, size, root's height*, and the blocks *held*
   unfoldable pub fileLine : ℕ → List ℕ
-  fileLine f = cond (live (size g b f)) (line word-file f (field word-size (size g b f) ++ field word-height (rootHeight g b f)
-      ++ field word-data (dataBlocks (g .words) b (rootHeight g b f) (rootBlock g b f) (size g b f)))) []
+  fileLine f = cond (live (size g b f))
+      (line word-file f (field word-size (size g b f) ++ field word-height (rootHeight g b f) ++ field word-held (heldCount f))) []
 
   -- *First line: B, free count. Then each file, rising*
   unfoldable pub boardLines : List ℕ

@@ -3,7 +3,7 @@
 ghost use mathlib.Core.List.{[], _∷_, _++_};
 ghost use Prim.Native.Nat.{_+_, _<_, _^_};
 ghost use lib.ListN.{length};
-ghost use Rattle.model.specs.Lister.{digits, decimal, field, line, word-blocks, word-free, word-file, word-size, word-height, word-data, word-refused};
+ghost use Rattle.model.specs.Lister.{digits, decimal, field, line, word-blocks, word-free, word-file, word-size, word-height, word-held, word-refused};
 ghost use Rattle.text.specs.Wrote.{Wrote, entry};
 
 // One byte.
@@ -93,22 +93,22 @@ pub fn board_line(out: &mut [u8], p: usize, blocks: u64, free: u64) -> usize
     put(out, q, b'\n')
 }
 
-// The line of a file: its number, size, root's height, and data blocks.
+// The line of a file: its number, size, root's height, and the blocks held.
 pub fn file_line(
     out: &mut [u8],
     p: usize,
     number: u64,
     size: u64,
     height: u64,
-    blocks: u64,
+    held: u64,
 ) -> usize
     requires { ⌜ p + 106 < 2 ^ 64 ⌝ }
-    ensures { λ r. ⌜ Wrote 106 (line word-file number (field word-size size ++ field word-height height ++ field word-data blocks)) p (now (out .entry)) r
+    ensures { λ r. ⌜ Wrote 106 (line word-file number (field word-size size ++ field word-height height ++ field word-held held)) p (now (out .entry)) r
         (now (out .exit)) ⌝ }
 {
     let q = entry(out, p, b"file", number);
     let q = field(out, q, b"size", size);
     let q = field(out, q, b"height", height);
-    let q = field(out, q, b"data", blocks);
+    let q = field(out, q, b"held", held);
     put(out, q, b'\n')
 }

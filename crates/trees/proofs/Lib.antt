@@ -1,5 +1,5 @@
--- What the proofs of several functions use: marks piece by piece (Marking), a tree's crawl one level at a time (Crawling), its count of data
--- blocks (DataCount).
+-- What the proofs of several functions use: marks piece by piece (Marking), a tree's crawl one level at a time (Crawling), its count of blocks
+-- (Holding).
 pub mod Marking
 pub mod Crawling
-pub mod DataCount
+pub mod Holding

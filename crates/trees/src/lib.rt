@@ -1,4 +1,4 @@
-// Trees of blocks: the walk to a byte, the crawl that marks live blocks, and the count of data blocks. A tree is (h, k, n), as in the
+// Trees of blocks: the walk to a byte, the crawl that marks live blocks, and the count of those. A tree is (h, k, n), as in the
 // definitions: its height, its block, and how many of its bytes lie below the file's size.
 use model::WalkEnd;
 use words::cell;
@@ -114,8 +114,8 @@ pub fn crawl(board: &[u64], marks: &mut [u64], top: u64, h: u64, k: u64, n: u64)
     true
 }
 
-// How many live data blocks a tree has.
-pub fn data_blocks(board: &[u64], h: u64, k: u64, n: u64) -> u64
+// How many live blocks a tree has, pointer blocks and data blocks.
+pub fn held_count(board: &[u64], h: u64, k: u64, n: u64) -> u64
     requires { ⌜ h < 8 ⌝ }
     ensures { λ r. ⌜ Counted (now (board .entry)) h k n r ⌝ }
 {
@@ -129,12 +129,12 @@ pub fn data_blocks(board: &[u64], h: u64, k: u64, n: u64) -> u64
         return 1;
     }
     let s = span(h - 1);
-    let mut count = 0;
+    let mut count = 1;
     let mut j = 0;
     while j < 8 {
         let start = j * s;
         if start < n {
-            count += data_blocks(board, h - 1, cell(board, k, j) / 8, n - start);
+            count += held_count(board, h - 1, cell(board, k, j) / 8, n - start);
         }
         j += 1;
     }

@@ -8,7 +8,7 @@ returns c = let a = c .before .before .before .before .args in no-line (a .board
 
 returns-2 : tie.Need-returns-2
 returns-2 c = let l = c .before .before in let d = l .before .before in let s = d .before .before .before in let a = s .before .before .before .args in
-    one-line (a .board .now) (a .f) (s .size .ensures) (d .before .before .if1 .left) (d .before .root .ensures) (d .data-blocks .ensures) (l .file-line .ensures)
+    one-line (a .board .now) (a .f) (s .size .ensures) (d .before .before .if1 .left) (d .before .root .ensures) (d .held-count .ensures) (l .file-line .ensures)
 
 pub file-spec : {M : Type 1} → statement M
 file-spec =
