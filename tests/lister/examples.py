@@ -1,14 +1,16 @@
 #!/usr/bin/env python3
 """./list-board by itself prints E13's two lines, and on each image of examples/ what examples/listings.txt has, which the reference
-model made."""
+model made. On each accepted board the printed blocks add up."""
 import glob
 import os
 import subprocess
 
+from sums import adds_up
+
 ROOT = os.path.dirname(os.path.dirname(os.path.dirname(os.path.abspath(__file__))))
 EXAMPLES = os.path.join(ROOT, 'examples')
 LISTINGS = os.path.join(EXAMPLES, 'listings.txt')
-E13 = 'blocks 16 free 4\nfile 0 size 2 height 0 data 1\n'
+E13 = 'blocks 16 free 4\nfile 0 size 2 height 0 held 1\n'
 
 
 def list_board(*words):
@@ -18,17 +20,21 @@ def list_board(*words):
 
 def listings():
     names = sorted(os.path.basename(path) for path in glob.glob(os.path.join(EXAMPLES, '*.img')))
-    return len(names), '\n'.join(name + '\n' + list_board(name) for name in names)
+    return [(name, list_board(name)) for name in names]
 
 
 def main():
-    count, text = listings()
+    printed = listings()
     assert list_board() == E13, 'list-board does not print what E13 has'
     with open(LISTINGS) as stored:
-        assert stored.read() == text, 'the listings are not those of examples/listings.txt'
+        assert stored.read() == '\n'.join(name + '\n' + text for name, text in printed), 'the listings are not those of examples/listings.txt'
+    accepted = [(name, text) for name, text in printed if not text.startswith('refused')]
+    assert [name for name, text in accepted] == [name for name, text in printed if 'damaged' not in name], 'a sound board refused, or a damaged one accepted'
+    for name, text in accepted:
+        assert adds_up(text), name + ': the printed blocks do not add up'
     refused = subprocess.run([os.path.join(ROOT, 'list-board'), 'no-such.img'], capture_output=True, cwd=EXAMPLES)
     assert refused.returncode == 2 and not refused.stdout, 'an image that cannot be read'
-    print('list-board: %d example images, listings as examples/listings.txt has them' % count)
+    print('list-board: %d example images, listings as examples/listings.txt has them; on %d accepted boards held, free and 11 make B' % (len(printed), len(accepted)))
 
 
 main()

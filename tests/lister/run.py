@@ -1,5 +1,6 @@
 #!/usr/bin/env python3
 """Runs target/bin/lister on images, and holds what it prints against board.py, the reference model, and E13 against the document.
+On each accepted board the printed blocks are added up.
 
 Boards are made by the model's own calls: format, writes and length changes, planned and performed, on memory that held rubbish.
 
@@ -16,9 +17,10 @@ sys.path.insert(0, os.path.join(ROOT, 'tests', 'reference'))
 import board as B
 import making
 from making import PLAN, image_of, performed
+from sums import adds_up
 
 LISTER = os.path.join(ROOT, 'target', 'bin', 'lister')
-E13 = 'blocks 16 free 4\nfile 0 size 2 height 0 data 1\n'
+E13 = 'blocks 16 free 4\nfile 0 size 2 height 0 held 1\n'
 
 
 # ---- Boards
@@ -52,8 +54,9 @@ def many_shapes(rnd):
     words = set_length(words, 14, 9000)
     words = performed(words, B.write(words, 14, 8999, [7], PLAN), pairs=1)  # growth of a null root, the power cut after it
     lines = B.listing(image_of(words))
-    for want in ['height 0 data 1', 'height 1 data', 'height 2 data', 'height 3 data', 'size 32768 height 0 data 1', 'size 32768 height 0 data 0',
-                 'size 9000 height 3 data 0', 'file 31']:
+    for want in ['file 0 size 1 height 0 held 1', 'file 1 size 32768 height 0 held 1', 'file 2 size 65 height 1 held 3', 'file 4 size 66 height 2 held 4',
+                 'file 6 size 4097 height 3 held 77', 'file 7 size 20000 height 3 held 359', 'file 9 size 32768 height 0 held 0',
+                 'file 10 size 32768 height 3 held 4', 'file 14 size 9000 height 3 held 0', 'file 31 size 3']:
         assert want in lines, want
     assert 'file 30' not in lines
     return words
@@ -123,6 +126,8 @@ def inputs(rnd, count):
 def compare(name, wanted, status, found):
     found = found.decode('latin-1')
     if status == 0 and found == wanted:
+        if not found.startswith('refused') and not adds_up(found):
+            sys.exit('lister: %s: the printed blocks do not add up' % name)
         return
     print('lister: %s: not as expected, exit status %d' % (name, status))
     wanted, found = wanted.splitlines(True), found.splitlines(True)
@@ -170,7 +175,9 @@ def main():
         if wanted.startswith('refused'):
             refusals[wanted.strip()] = refusals.get(wanted.strip(), 0) + 1
     print('lister: ' + ', '.join('%s %d times' % refusal for refusal in sorted(refusals.items())))
-    print('lister: %d inputs, all as the reference model has them' % number)
+    accepted = number - sum(refusals.values())
+    assert len(refusals) == 3 and accepted > count, 'too few kinds of image'
+    print('lister: %d inputs, all as the reference model has them; on %d accepted boards held, free and 11 make B' % (number, accepted))
 
 
 main()

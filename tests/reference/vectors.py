@@ -295,7 +295,7 @@ def bench(vectors):
     for length in (32768, 32769):
         vectors.length(words, 0, length)
     image = B.image_of(words)
-    assert B.listing(image) == 'blocks 16 free 4\nfile 0 size 2 height 0 data 1\n'
+    assert B.listing(image) == 'blocks 16 free 4\nfile 0 size 2 height 0 held 1\n'
     for part in (image, image[:-1], image[:960], image[:7], []):
         vectors.image(part, 0, 1, [9, 9, 9])
 

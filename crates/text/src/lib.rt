@@ -94,14 +94,7 @@ pub fn board_line(out: &mut [u8], p: usize, blocks: u64, free: u64) -> usize
 }
 
 // The line of a file: its number, size, root's height, and the blocks held.
-pub fn file_line(
-    out: &mut [u8],
-    p: usize,
-    number: u64,
-    size: u64,
-    height: u64,
-    held: u64,
-) -> usize
+pub fn file_line(out: &mut [u8], p: usize, number: u64, size: u64, height: u64, held: u64) -> usize
     requires { ⌜ p + 106 < 2 ^ 64 ⌝ }
     ensures { λ r. ⌜ Wrote 106 (line word-file number (field word-size size ++ field word-height height ++ field word-held held)) p (now (out .entry)) r
         (now (out .exit)) ⌝ }

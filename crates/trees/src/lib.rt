@@ -120,10 +120,10 @@ pub fn held_count(board: &[u64], h: u64, k: u64, n: u64) -> u64
     ensures { λ r. ⌜ Counted (now (board .entry)) h k n r ⌝ }
 {
     if n == 0 {
-        return 0;
+        return 0; // not live
     }
     if k == 0 {
-        return 0;
+        return 0; // null
     }
     if h == 0 {
         return 1;
