@@ -1,5 +1,5 @@
 #!/usr/bin/env python3
-"""Holds the definitions of crates/model against board.py, a second model of document 01 and N3 of document 02.
+"""Holds the definitions of crates/model against board.py, a second model of document 01 and N1 and N3 of document 02.
 
 Makes boards with rubbish wherever the document allows it, has board.py say what calls on them answer and leave, and has the prover
 compute the same from the definitions. Among the calls is one for each way of planning that is met. The numbers are drawn from a seed.

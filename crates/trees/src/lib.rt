@@ -1,4 +1,4 @@
-// Trees of blocks: the walk to a byte, the crawl that marks live blocks, and the count of those. A tree is (h, k, n), as in the
+// Trees of blocks: the walk to a byte, the crawl that marks live blocks, and their count. A tree is (h, k, n), as in the
 // definitions: its height, its block, and how many of its bytes lie below the file's size.
 use model::WalkEnd;
 use words::cell;
