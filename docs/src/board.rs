@@ -232,7 +232,7 @@ pub fn free_blocks(board: &[u64]) -> Vec<u64> {
 
 /// N1: "every live block of the file, data and pointers", found by walking its tree. It marks as `live_blocks` does,
 /// but this file's blocks alone, so the inode pointer block and the inode leaves aren't among them.
-pub fn held_blocks(board: &[u64], inode: Inode) -> u64 {
+pub fn held_count(board: &[u64], inode: Inode) -> u64 {
     let mut held = vec![false; block_count(board) as usize];
     let reached = reach_file(board, &mut held, inode); // Never `None` on an accepted board.
     reached.map_or(0, |()| held.iter().filter(|&&marked| marked).count() as u64)

@@ -1,7 +1,7 @@
 //! Board images held as bytes: their decoding, the calls that the cabinet's C program makes on them, and the text that
 //! the lister prints.
 
-use crate::board::{block_count, held_blocks, inode, FILES};
+use crate::board::{block_count, held_count, inode, FILES};
 use crate::calls;
 
 /// The lister refuses an image of more bytes than this.
@@ -64,6 +64,6 @@ fn file_line(board: &[u64], file: u64) -> String {
     if inode.size == 0 {
         return String::new();
     }
-    let (size, height, held) = (inode.size, inode.tree().height, held_blocks(board, inode));
+    let (size, height, held) = (inode.size, inode.tree().height, held_count(board, inode));
     format!("file {file} size {size} height {height} held {held}\n")
 }

@@ -32,6 +32,7 @@ def main():
     assert [name for name, text in accepted] == [name for name, text in printed if 'damaged' not in name], 'a sound board refused, or a damaged one accepted'
     for name, text in accepted:
         assert adds_up(text), name + ': the printed blocks do not add up'
+        assert not adds_up(text.replace('held 1\n', 'held 2\n', 1)), name + ': adds up with one block too many'
     refused = subprocess.run([os.path.join(ROOT, 'list-board'), 'no-such.img'], capture_output=True, cwd=EXAMPLES)
     assert refused.returncode == 2 and not refused.stdout, 'an image that cannot be read'
     print('list-board: %d example images, listings as examples/listings.txt has them; on %d accepted boards held, free and 11 make B' % (len(printed), len(accepted)))

@@ -300,6 +300,16 @@ def bench(vectors):
         vectors.image(part, 0, 1, [9, 9, 9])
 
 
+def each_height(vectors, rnd):
+    """Images of boards with a file of each height: whole, with holes, with one path, with a null root; rubbish past the size in each."""
+    for height, size, held, exists in [(0, 20, 1, lambda h, start: True), (1, 130, 4, lambda h, start: True),
+                                       (2, 700, 5, lambda h, start: h > 0 or start in (0, 512)),
+                                       (3, 4200, 4, lambda h, start: start <= 4199 < start + B.SPAN[h]), (3, 600, 0, lambda h, start: False)]:
+        image = B.image_of(made(rnd, 20, 9, height, size, exists))
+        assert B.listing(image).endswith('file 9 size %d height %d held %d\n' % (size, height, held)), B.listing(image)
+        vectors.image(image, 9, size - 2, [9, 9, 9])
+
+
 def at_random(vectors, rnd, count):
     for _ in range(count):
         words, file = some_board(rnd)
@@ -375,6 +385,7 @@ def main():
     each_damage(vectors, rnd)
     bench(vectors)
     at_random(vectors, rnd, count)
+    each_height(vectors, rnd)
     status, said = prove(vectors)
     failed = sorted({int(i) for i in re.findall(r'error: `v(\d+)`', said)})
     for i in failed:

@@ -59,10 +59,10 @@ EDITS = [
     ('file 32', 'calls', 'file < FILES, 4', 'file <= FILES, 4'),
     ('half words of an image', 'lister', 'image.len() % 8 != 0 || ', ''),
     ('a line for an empty file', 'lister', 'if inode.size == 0 {', 'if inode.size == 0 && file > 0 {'),
-    ('held: data blocks alone', 'lister', 'held_blocks(board, inode)', '(0..inode.size).step_by(64).filter(|&byte| matches!(crate::board::walk(board, inode, byte), crate::board::Place::Block(_))).count()'),
+    ('held: data blocks alone', 'lister', 'held_count(board, inode)', '(0..inode.size).step_by(64).filter(|&byte| matches!(crate::board::walk(board, inode, byte), crate::board::Place::Block(_))).count()'),
     ('held: a null root counted', 'board', 'let reached = reach_file(', 'held[0] = inode.root / 8 == 0;\n    let reached = reach_file('),
     ('held: a pointer past the size followed', 'board', 'reach_file(board, &mut held, inode)', 'reach_file(board, &mut held, Inode { size: inode.tree().end().min(SIZE_LIMIT), ..inode })'),
-    ('held: the highest pointer block left out', 'lister', 'held_blocks(board, inode)', 'held_blocks(board, inode).saturating_sub(inode.tree().height.min(1))'),
+    ('held: the highest pointer block left out', 'lister', 'held_count(board, inode)', 'held_count(board, inode).saturating_sub(inode.tree().height.min(1))'),
 ]
 
 

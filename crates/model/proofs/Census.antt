@@ -1,4 +1,5 @@
--- Free blocks: which they are, and how many. Live blocks lie in 1 to B − 2 and no block is reached twice, so the free ones are the rest of these.
+-- Free blocks: which they are, and how many; and how many blocks the files hold. Live blocks lie in 1 to B − 2 and no block is reached twice, so the free
+-- ones are the rest of these.
 use mathlib.Core.Path.{_≡_, refl, sym, ap, _∙_}
 use mathlib.Core.Logic.{_≢_, inl, inr}
 use mathlib.Core.Bool.{Bool, true, false, not, true≢false}
@@ -202,13 +203,13 @@ live-count g b =
     let joins = joined (files g) (fileBlocks g b) in
     omega (arith, length-append (tabulate (g .leaves) (leaf g b)) joins, length-tabulate (g .leaves) (leaf g b), length-joined (files g) (fileBlocks g b))
 
-pub held-all : HeldRule
+pub held-rule : HeldRule
 unfolding heldCount fileBlocks rootBlocks
-held-all g fit b t = (
+held-rule g fit b t = (
   omega (arith, census g fit b t, live-count g b),
   λ f e. rw (e, blocks-dead (g .words) b (rootHeight g b f) (rootBlock g b f)),
 )
 
-pub house-held : HouseHeldRule
+pub house-held-rule : HouseHeldRule
 unfolding files
-house-held b t = omega (arith, held-all house house-fits b t .0)
+house-held-rule b t = omega (arith, held-rule house house-fits b t .0)

@@ -1,5 +1,5 @@
 -- Counting the live blocks of a tree, one level at a time.
-use mathlib.Core.Path.{_≡_, refl, sym, ap, _∙_}
+use mathlib.Core.Path.{_≡_, refl, _∙_}
 use mathlib.Core.Logic.{_≢_}
 use mathlib.Core.List.{List}
 use Prim.Native.Nat.{ℕ, zero, suc, _+_, _-_, _*_, _/_, _≤_, _<_}
@@ -8,6 +8,7 @@ use native.Mathlib.Omega.{arith}
 use lib.ListN.{length, length-append}
 use Rattle.model.specs.Lists.{joined}
 use Rattle.model.specs.Tree.{span, cell}
+use Rattle.model.proofs.Spans.{span-pos}
 use Rattle.model.proofs.Trees.{childBlocks, blocks-dead, blocks-null, blocks-here, blocks-children}
 use Rattle.trees.specs.Trees.{Counted}
 
@@ -23,9 +24,7 @@ span-down zero high = absurd (high refl)
 span-down (suc h) high = rw sub-one
 
 span-some : (h : ℕ) → 0 < span 8 h
-unfolding span
-span-some zero = omega arith
-span-some (suc h) = omega (arith, span-some h)
+span-some h = span-pos 8 (omega arith) h
 
 module _ {b : List ℕ} {h k n : ℕ} where
   pub dead : n ≡ 0 → Counted b h k n 0
