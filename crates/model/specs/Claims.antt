@@ -73,7 +73,7 @@ abbrev pub HeldRule : Type 0
 HeldRule = (g : Layout) → Fits g → (b : List ℕ) → T (accepted g b)
     → (sum (files g) (heldCount g b) + length (free g b) + g .leaves + 3 ≡ blockCount g b) × ((f : ℕ) → size g b f ≡ 0 → heldCount g b f ≡ 0)
 
--- *and 11 make B*
+-- with the house's figures: all files' held counts, the free count *and 11 make B*
 abbrev pub HouseHeldRule : Type 0
 HouseHeldRule = (b : List ℕ) → T (accepted house b) → sum 32 (heldCount house b) + length (free house b) + 11 ≡ blockCount house b
 
