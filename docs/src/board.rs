@@ -49,9 +49,20 @@ pub fn span(height: u64) -> u64 {
     BLOCK_BYTES << (3 * height)
 }
 
-/// The least height whose span holds `end` bytes, for `end` up to 32,768.
+/// The least height whose span holds `end` bytes, for `end` up to 32,768. After N4 it still goes by spans: the library
+/// compared with chooses by the bands, so the comparison shows "that no plan changes".
 pub fn least_height(end: u64) -> u64 {
     (0..HEIGHT_LIMIT).find(|&height| end <= span(height)).unwrap_or(HEIGHT_LIMIT)
+}
+
+/// N4: "Our bench sheet prints four bands, 0 to 64, 65 to 512, 513 to 4,096 and 4,097 to 32,768 bytes." The first and
+/// the last size of each; a band's place in the table, from 0, is its height.
+pub const BANDS: [(u64, u64); 4] = [(0, 64), (65, 512), (513, 4_096), (4_097, 32_768)];
+
+/// N4: "Have the program choose by those bands": the height of a size; `None` for a size that lies in no band.
+pub fn height_by_bands(size: u64) -> Option<u64> {
+    let place = BANDS.iter().position(|&(first, last)| (first..=last).contains(&size));
+    place.map(|height| height as u64)
 }
 
 /// Words 1 to 7 of the trailer: "word 1 is 512 (bytes of inodes), word 2 is B, word 3 is 1 (the layout), words 4 to

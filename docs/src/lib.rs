@@ -1,7 +1,7 @@
 //! Document 01 ("Cabinet memory board: block trees and planned stores"), as changed by requests N1 ("The block column
-//! in the lister") and N3 ("Writing past the end"), written out a second time, from their sentences alone, so that
-//! another implementation can be compared with it. It is slow and plain on purpose: each call reads the lent board,
-//! makes its whole plan as a list of epochs, and only then tests the refusals that depend on it.
+//! in the lister"), N3 ("Writing past the end") and N4 ("Height by cases"), written out a second time, from their
+//! sentences alone, so that another implementation can be compared with it. It is slow and plain on purpose: each call
+//! reads the lent board, makes its whole plan as a list of epochs, and only then tests the refusals that depend on it.
 //!
 //! Every public call gives `Ok(answer)` or `Err(refusal number)`. A refused call changes nothing that it was lent.
 
@@ -13,5 +13,6 @@ mod calls;
 mod lister;
 mod plan;
 
+pub use board::{height_by_bands, least_height, BANDS};
 pub use calls::{check, format, free_count, perform, read, set_length, size, write};
 pub use lister::{image_check, image_read, image_size, listing, signed};

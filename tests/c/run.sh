@@ -13,6 +13,7 @@ gcc -std=c11 "${flags[@]}" tests/c/vectors.c "$images" -o target/c/vectors
 gcc -std=c11 "${flags[@]}" tests/c/words.c "$words" -o target/c/words
 gcc -std=c11 "${flags[@]}" tests/c/changing.c "$words" -o target/c/changing
 gcc -std=c11 "${flags[@]}" tests/c/examples.c "$words" -o target/c/examples
+gcc -std=c11 "${flags[@]}" tests/c/sheet.c "$words" -o target/c/sheet
 g++ -std=c++11 -pedantic "${flags[@]}" tests/c/header.cpp "$images" "$words" -o target/c/header
 
 target/c/header
@@ -21,6 +22,7 @@ target/c/changing
 target/c/examples | diff - tests/c/examples.txt
 echo "examples: E1 to E12 and a cut plan as examples.txt has them"
 python3 tests/c/guide.py
+python3 tests/c/sheet.py
 python3 tests/c/vectors.py &
 vectors=$!
 python3 tests/c/words.py

@@ -1,5 +1,5 @@
-"""A model of the cabinet memory board in Python, from document 01 and N1 and N3 of document 02 (docs/DECISIONS.md says how far apart
-from the definitions).
+"""A model of the cabinet memory board in Python, from document 01 and N1, N3 and N4 of document 02 (docs/DECISIONS.md says how far
+apart from the definitions).
 
 It surveys a board into dictionaries and plans with explicit loops, where the definitions in crates/model recurse, so that an error is
 not likely to be made twice. Answers are numbers, a refusal r is -r. vectors.py holds the definitions against it.
@@ -8,6 +8,14 @@ not likely to be made twice. Answers are numbers, a refusal r is -r. vectors.py 
 BARRIER = 2**64 - 1
 MOST = 32768
 SPAN = [64, 512, 4096, 32768]
+
+# The four bands as the bench sheet prints them (N4), not made from SPAN: first size, last size, height.
+BANDS = [
+    (0, 64, 0),
+    (65, 512, 1),
+    (513, 4096, 2),
+    (4097, 32768, 3),
+]
 
 
 class Refused(Exception):
@@ -204,7 +212,9 @@ def listing(image):
 
 
 def least(end):
-    return next(h for h in range(4) if end <= SPAN[h])
+    """The height of the one band with the end in it; with no such band, or two, the unpacking raises."""
+    [height] = [height for first, last, height in BANDS if first <= end <= last]
+    return height
 
 
 class Write:

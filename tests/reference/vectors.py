@@ -1,5 +1,5 @@
 #!/usr/bin/env python3
-"""Holds the definitions of crates/model against board.py, a second model of document 01 and N1 and N3 of document 02.
+"""Holds the definitions of crates/model and crates/bands against board.py, a second model of document 01 and N1, N3 and N4 of document 02.
 
 Makes boards with rubbish wherever the document allows it, has board.py say what calls on them answer and leave, and has the prover
 compute the same from the definitions. Among the calls is one for each way of planning that is met. The numbers are drawn from a seed.
@@ -47,6 +47,7 @@ use Rattle.model.specs.Cabinet.{imageCheck, imageSize, imageRead, imageReadBuff
 use Rattle.model.specs.Lister.{listing}
 use Rattle.model.specs.Examples.{sameList, sameAnswer}
 use Rattle.model.proofs.Computing.{computes}
+use Rattle.bands.specs.Sheet.{row, sheet, lies, heightIn, sheetHeight}
 
 samePlanned : Planned → Answer → List ℕ → Bool
 samePlanned p a slice = sameAnswer (p .answer) a && sameList (p .slice) slice
@@ -64,7 +65,7 @@ sameEnd (Block m) Hole = false
 sameEnd (Block m) (Block n) = eqb m n
 
 '''
-OPEN = 'unfolding computes sameAnswer sameList samePlanned sameInt sameEnd'
+OPEN = 'unfolding computes sameAnswer sameList samePlanned sameInt sameEnd row sheet lies heightIn sheetHeight'
 
 
 def numbers(xs):
@@ -156,6 +157,9 @@ class Vectors:
         args = '%s %d' % (numbers(plan), pairs)
         self.add('perform', words, 'sameAnswer (performAnswer house BOARD %s) %s && sameList (performBoard house BOARD %s) %s'
                  % (args, answer(got), args, numbers(left)))
+
+    def height(self, size):
+        self.add('height', [], 'eqb (sheetHeight %d) %d' % (size, B.least(size)))
 
     def image(self, image, file, offset, out):
         words = B.words_of(image)
@@ -310,6 +314,13 @@ def each_height(vectors, rnd):
         vectors.image(image, 9, size - 2, [9, 9, 9])
 
 
+def each_band(vectors, rnd):
+    """The height by the bench sheet: at both ends of each band, and at a size between them."""
+    for first, last in [(0, 64), (65, 512), (513, 4096), (4097, 32768)]:
+        for size in (first, rnd.randrange(first + 1, last), last):
+            vectors.height(size)
+
+
 def at_random(vectors, rnd, count):
     for _ in range(count):
         words, file = some_board(rnd)
@@ -351,17 +362,17 @@ def text_of(vectors, chosen):
 
 def prove(vectors, crates=2):
     """What the prover says of the vectors as theorems, in some crates side by side over a copy of the definitions."""
-    texts = {'model/proofs/Lib.antt': 'pub mod Computing\n'}
-    listed = 'model:\n'
+    texts = {'model/proofs/Lib.antt': 'pub mod Computing\n', 'bands/src/lib.rt': '// The definitions alone.\n'}
+    listed = 'model:\nbands: model\n'
     for c in range(crates):
-        listed += 'vectors%d: model\n' % c
+        listed += 'vectors%d: model bands\n' % c
         texts['vectors%d/src/lib.rt' % c] = 'pub const PART: usize = %d;\n' % c
         texts['vectors%d/proofs/Lib.antt' % c] = 'pub mod Vectors\n'
         texts['vectors%d/proofs/Vectors.antt' % c] = text_of(vectors, range(c, len(vectors.all), crates))
     place = tempfile.mkdtemp()
     try:
-        for part in ('src', 'specs', 'proofs/Computing.antt'):
-            source, target = os.path.join(ROOT, 'crates/model', part), os.path.join(place, 'crates/model', part)
+        for part in ('model/src', 'model/specs', 'model/proofs/Computing.antt', 'bands/specs'):
+            source, target = os.path.join(ROOT, 'crates', part), os.path.join(place, 'crates', part)
             os.makedirs(os.path.dirname(target), exist_ok=True)
             (shutil.copytree if os.path.isdir(source) else shutil.copy)(source, target)
         for name, text in dict(texts, **{'../crates.txt': listed}).items():
@@ -386,6 +397,7 @@ def main():
     bench(vectors)
     at_random(vectors, rnd, count)
     each_height(vectors, rnd)
+    each_band(vectors, rnd)
     status, said = prove(vectors)
     failed = sorted({int(i) for i in re.findall(r'error: `v(\d+)`', said)})
     for i in failed:

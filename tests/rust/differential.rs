@@ -8,7 +8,7 @@ mod calls;
 use calls::Calls;
 use std::io::Write;
 use std::process::{Command, Stdio};
-use support::boards::{block_count, damage, formatted, image_of, laid, unknown};
+use support::boards::{block_count, damage, formatted, image_of, laid, unknown, GREATEST};
 use support::library;
 use support::past_end;
 use support::random::Random;
@@ -303,6 +303,17 @@ impl Test {
     }
 }
 
+/// N4's bands give document 01's least sufficient heights, and no size lies in two of them.
+fn bands_are_spans() {
+    for size in 0..=GREATEST {
+        let (banded, least) = (document::height_by_bands(size), document::least_height(size));
+        assert!(banded == Some(least), "size {size}: height {banded:?} by the bands, {least} by the spans");
+        let bands = document::BANDS.iter().filter(|(first, last)| (first..=last).contains(&&size)).count();
+        assert!(bands == 1, "size {size} lies in {bands} bands");
+    }
+    assert!(document::height_by_bands(GREATEST + 1).is_none(), "a band above the greatest size");
+}
+
 fn main() {
     let words = Words::read("differential", 300_000);
     let random = Random::new(words.seed, u64::MAX);
@@ -319,6 +330,7 @@ fn main() {
             test.round();
         }
     }
+    bands_are_spans();
     test.calls.report();
     test.ways.report();
     if words.wanted >= 100_000 {

@@ -1,5 +1,6 @@
 //! What the tests of the built library share.
 
+pub mod bands;
 pub mod boards;
 pub mod library;
 pub mod past_end;

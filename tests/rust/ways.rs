@@ -1,6 +1,7 @@
 //! Which of document 01's ways a plan goes by, told from the lent board, the arguments and the last store, and how
 //! often each was met.
 
+use crate::bands::Bands;
 use crate::boards::{inode, SPAN};
 use crate::past_end::{Kinds, PastEnd};
 
@@ -17,10 +18,12 @@ const WAYS: [&str; 7] = [
 const TAIL: usize = 1;
 const SHADOW_WITH_LENGTH: usize = 3;
 
-/// Plans met by each way, and how many of them growth came before; and those of writes past the end by their kinds.
+/// Plans met by each way, and how many of them growth came before; those of writes that choose a height; and those of
+/// writes past the end by their kinds.
 #[derive(Default)]
 pub struct Ways {
     met: [(u64, u64); 7],
+    bands: Bands,
     past_end: Kinds,
 }
 
@@ -52,6 +55,7 @@ impl Ways {
         if size > 0 && end > SPAN[(root % 8) as usize] {
             self.met[way].1 += 1;
         }
+        self.bands.count(board, file, end, plan);
         if let Some(write) = PastEnd::of(board, file, offset, end) {
             let expected = if write.into_empty() { TAIL } else { SHADOW_WITH_LENGTH };
             assert!(way == expected, "a write past the end goes by {}, not by {}", WAYS[way], WAYS[expected]);
@@ -79,16 +83,19 @@ impl Ways {
             let growth = if at < 4 { format!(", after growth {grown}") } else { String::new() };
             println!("plans by {name}: {all}{growth}");
         }
+        self.bands.report();
         self.past_end.report();
     }
 
-    /// Every way must have been met, the three that can follow growth also after it, and every kind past the end.
+    /// Every way must have been met, the three that can follow growth also after it, every end of a band, and every kind past
+    /// the end.
     pub fn all_met(&self) {
         for (name, &(all, _)) in WAYS.iter().zip(&self.met) {
             assert!(all > 0, "no plan by {name}");
         }
         assert!(self.met[1..=3].iter().all(|&(_, grown)| grown > 0), "a way was not met after growth");
         assert!(self.met[0].1 == 0, "growth before a single word");
+        self.bands.all_met();
         self.past_end.all_met();
     }
 }

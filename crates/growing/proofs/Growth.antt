@@ -1,4 +1,4 @@
--- Growth of a file's tree: the least sufficient height, the levels, and the plan.
+-- Growth of a file's tree: the levels, and the plan.
 use mathlib.Core.Path.{_≡_, refl, ap, _∙_}
 use mathlib.Core.Logic.{_≢_}
 use mathlib.Core.List.{List, [], _∷_}
@@ -7,10 +7,8 @@ use native.Mathlib.Omega.{arith}
 use native.Mathlib.Nat.{zero-add}
 use native.Mathlib.Numerals.{add-one}
 use lib.ListN.{length, getD}
-use borrow.Author.Tests.{le-leb, lt-leb}
 use Rattle.model.specs.Lists.{tabulate}
 use Rattle.model.specs.Layout.{house}
-use Rattle.model.specs.Tree.{span, least}
 use Rattle.model.specs.Board.{root}
 use Rattle.model.specs.Store.{store}
 use Rattle.model.specs.Fresh.{Page}
@@ -21,27 +19,6 @@ use Rattle.building.specs.Taking.{taking, Blocks, Took}
 use Rattle.building.proofs.Taken as Taken
 use Rattle.growing.specs.Planned.{PlanLaid, AddressOf}
 use Rattle.growing.proofs.OneStep.{one-step}
-
--- ---- The least height
-
-pub least-0 : (e : ℕ) → e ≤ 64 → 0 ≡ least 8 3 e
-unfolding least span
-least-0 e l =
-    let a : e ≤ 512 = omega arith in
-    let b : e ≤ 4096 = omega arith in
-    rw (le-leb e 4096 b, le-leb e 512 a, le-leb e 64 l)
-
-pub least-1 : (e : ℕ) → 64 < e → e ≤ 512 → 1 ≡ least 8 3 e
-unfolding least span
-least-1 e m l = let b : e ≤ 4096 = omega arith in rw (le-leb e 4096 b, le-leb e 512 l, lt-leb e 64 m)
-
-pub least-2 : (e : ℕ) → 512 < e → e ≤ 4096 → 2 ≡ least 8 3 e
-unfolding least span
-least-2 e m l = rw (le-leb e 4096 l, lt-leb e 512 m)
-
-pub least-3 : (e : ℕ) → 4096 < e → 3 ≡ least 8 3 e
-unfolding least span
-least-3 e m = rw (lt-leb e 4096 m)
 
 -- ---- Levels
 

@@ -9,7 +9,6 @@ use words::word;
 ghost use mathlib.Core.Path.{_≡_};
 ghost use Prim.Native.Nat.{_%_, _^_, _≤_, _<_};
 ghost use Rattle.model.specs.Layout.{house};
-ghost use Rattle.model.specs.Tree.{least};
 ghost use Rattle.model.specs.Board.{root};
 ghost use Rattle.model.specs.Change.{levels, growthTo, singleWord};
 ghost use Rattle.building.specs.Taking.{taking, Blocks, Took};
@@ -26,18 +25,6 @@ pub fn root_address(board: &[u64], file: u64) -> u64
     ensures { λ r. ⌜ AddressOf (now (board .entry)) file r ⌝ }
 {
     8 * (inode_pointer(board, file / 4) / 8) + 2 * (file % 4)
-}
-
-// The least height whose tree spans e bytes.
-pub fn least_height(e: u64) -> u64
-    ensures { λ r. ⌜ r ≡ least 8 3 e ⌝ }
-{
-    match e {
-        0..=64 => 0,
-        65..=512 => 1,
-        513..=4096 => 2,
-        _ => 3,
-    }
 }
 
 // Lays the fresh blocks of growth over block k, one for each of d levels. Answers how many are taken.

@@ -1,7 +1,7 @@
 // Plans of writes and length changes, once no refusal up to 6 turns the call away. `free` lists the free blocks.
+use bands::least_height;
 use growing::Count;
 use growing::grow;
-use growing::least_height;
 use growing::root_address;
 use growing::single;
 use model::WalkEnd;

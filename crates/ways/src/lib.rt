@@ -1,10 +1,10 @@
 // The ways of planning a write from the fourth on: tail, shadow inside, shadow with length. The names of arguments are those of `building`.
+use bands::least_height;
 use boards::trailer;
 use building::build;
 use building::minus;
 use building::take;
 use growing::Count;
-use growing::least_height;
 use growing::root_address;
 use model::WalkEnd;
 use plans::cell_on;

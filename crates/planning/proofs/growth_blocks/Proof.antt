@@ -11,12 +11,12 @@ returns c = let g = c .before in let a = g .before .before .before .args in
 
 grow-requires : tie.Need-grow-requires
 grow-requires c κs = let g = c .before .before .before in let s = g .before .before .before in let a = s .args in
-    let k = Growing.grown-height (a .board .now) (a .file) (a .e) (g .grows .ensures) (not-false _ (c .before .before .if1 .left)) (c .least-height .ensures) (s .pre .1) in
+    let k = Growing.grown-height (a .board .now) (a .file) (a .e) (g .grows .ensures) (not-false _ (c .before .before .if1 .left)) (c .least-height .ensures .1) (s .pre .1) in
     (s .pre .0, k .0, k .1)
 
 returns-2 : tie.Need-returns-2
 returns-2 c = let h = c .before .before in let g = h .before .before .before in let a = g .before .before .before .args in
-    Growing.grown-taken (a .board .now) (a .file) (a .e) (g .grows .ensures) (not-false _ (h .before .before .if1 .left)) (h .least-height .ensures)
+    Growing.grown-taken (a .board .now) (a .file) (a .e) (g .grows .ensures) (not-false _ (h .before .before .if1 .left)) (h .least-height .ensures .1)
     (taking (a .free .now)) (c .before .grow .ensures)
 
 pub growth-blocks-spec : {M : Type 1} → statement M

@@ -30,15 +30,15 @@ grows : (c : tie.After-least-height) → let a = c .before .before .before .befo
 grows c = sym (c .before .before .grows .ensures) ∙ not-false _ (c .before .if1 .left)
 
 grow-requires : tie.Need-grow-requires
-grow-requires c κs = let h = c .before in Grown.may-grow (h .before .before .before .before .before .before .before .pre) (grows h) (h .least-height .ensures)
+grow-requires c κs = let h = c .before in Grown.may-grow (h .before .before .before .before .before .before .before .pre) (grows h) (h .least-height .ensures .1)
 
 grow-requires-2 : tie.Need-grow-requires-2
 grow-requires-2 c κs = let h = c .before .before .before .before in
-    Grown.may-grow (h .before .before .before .before .before .before .before .pre) (grows h) (h .least-height .ensures)
+    Grown.may-grow (h .before .before .before .before .before .before .before .pre) (grows h) (h .least-height .ensures .1)
 
 counted : (c : tie.After-grow) → Grown.GrowthCount (c .grow .result)
 counted c = let h = c .before .before in
-    Grown.counted (h .before .before .before .before .before .before .before .pre) (grows h) (h .least-height .ensures) (c .grow .ensures)
+    Grown.counted (h .before .before .before .before .before .before .before .pre) (grows h) (h .least-height .ensures .1) (c .grow .ensures)
 
 mul-end : tie.Need-mul-end
 mul-end c = omega (arith, counted (c .before .before .before .before .before .before .before .before .before))
@@ -62,7 +62,7 @@ slice-aggregate-way-2 c = let w = c .before .before .before .before .before .bef
 
 way-requires-2 : tie.Need-way-requires-2
 way-requires-2 c κs = let w = c .before .before .before .before .before .before .before .before .before .before .before .before .before in let h = w .before .before in
-    Grown.grown-ready (h .before .before .before .before .before .before .before .pre) (grows h) (h .least-height .ensures) (w .grow .ensures) (omega arith)
+    Grown.grown-ready (h .before .before .before .before .before .before .before .pre) (grows h) (h .least-height .ensures .1) (w .grow .ensures) (omega arith)
 
 returns-2 : tie.Need-returns-2
 returns-2 c =
@@ -71,7 +71,7 @@ returns-2 c =
     let m = n .before .before .before .before in
     let w = m .before .before .before in
     let h = w .before .before in
-    Grown.grown-laid (h .before .before .before .before .before .before .before .pre) (grows h) (h .least-height .ensures) (w .grow .ensures) (omega arith)
+    Grown.grown-laid (h .before .before .before .before .before .before .before .pre) (grows h) (h .least-height .ensures .1) (w .grow .ensures) (omega arith)
     (m .grow2 .ensures) (n .barrier .ensures) (a .way2 .ensures)
 
 pub plan-grown-spec : {M : Type 1} → statement M

@@ -11,7 +11,7 @@ use Rattle.ways.proofs.fill_empty.Tie as tie
 low : (c : tie.After-least-height) → c .least-height .result ≤ 3
 low c =
     let a = c .before .before .before .before .before .before .before .args in
-    omega (arith, c .least-height .ensures, least-within 8 (omega arith) 3 (a .o + length (a .new .now)))
+    omega (arith, c .least-height .ensures .1, least-within 8 (omega arith) 3 (a .o + length (a .new .now)))
 
 build-requires : tie.Need-build-requires
 build-requires c κs =
@@ -54,7 +54,7 @@ returns c =
     let p = e .before .before .before .before in
     let b = p .before .before .before .before .before in
     let h = b .before .before in
-    Ways.empty-laid (h .before .before .before .before .before .before .before .pre) (h .before .root-address .ensures) (h .least-height .ensures) (b .build .ensures)
+    Ways.empty-laid (h .before .before .before .before .before .before .before .pre) (h .before .root-address .ensures) (h .least-height .ensures .1) (b .build .ensures)
     (p .before .word .ensures) (p .pair .ensures) (e .commit .ensures)
 
 pub fill-empty-spec : {M : Type 1} → statement M

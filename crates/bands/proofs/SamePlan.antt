@@ -1,0 +1,50 @@
+-- A write's plan is the same with every function that gives the least sufficient height where the write ends.
+use mathlib.Core.Path.{_≡_, refl, sym, ap, _∙_}
+use mathlib.Core.Logic.{inl, inr}
+use mathlib.Core.Bool.{Bool, true, false, cond, _&&_}
+use mathlib.Core.List.{List, [], _∷_}
+use Prim.Native.Nat.{ℕ, zero, suc, _+_}
+use native.Mathlib.Omega.{arith}
+use lib.ListN.{length}
+use borrow.Author.Tests.{lt-leb}
+use Rattle.model.specs.Lists.{concat}
+use Rattle.model.specs.Layout.{Layout, house}
+use Rattle.model.specs.Tree.{live, span, least}
+use Rattle.model.specs.Board.{size}
+use Rattle.model.specs.Store.{performed}
+use Rattle.model.specs.Plan.{planEpochs, afterwards}
+use Rattle.model.specs.Change.{growth, singleBlock, isTail, emptyTail, tail, chosenWay, writePlan}
+use Rattle.bands.specs.Sheet.{sheetHeight}
+use Rattle.bands.specs.Planned.{growthBy, emptyTailBy, wayBy, writePlanBy}
+use Rattle.bands.specs.Claims.{SameHeightRule, SamePlanRule}
+use Rattle.bands.proofs.Bands.{sheet-least}
+
+module _ (g : Layout) (tall fresh : ℕ → ℕ) (b : List ℕ) (f : ℕ) where
+  growth-same : (e : ℕ) → tall e ≡ least (g .words) (g .height) e → growthBy g tall fresh b f e ≡ growth g fresh b f e
+  unfolding growthBy growth
+  growth-same e same = rw same
+
+  empty-same : (o : ℕ) (new : List ℕ) (c : ℕ) → tall (o + length new) ≡ least (g .words) (g .height) (o + length new)
+      → emptyTailBy g tall fresh b f o new c ≡ emptyTail g fresh b f o new c
+  unfolding emptyTailBy emptyTail
+  empty-same o new c same = rw same
+
+  -- with s = 0 the way is the tail's
+  way-same : (o : ℕ) (x : ℕ) (new : List ℕ) (c : ℕ) → tall (o + suc (length new)) ≡ least (g .words) (g .height) (o + suc (length new))
+      → wayBy g tall fresh b f o (x ∷ new) c ≡ chosenWay g fresh b f (singleBlock g b f o (o + suc (length new))) o (x ∷ new) c
+  unfolding wayBy chosenWay singleBlock isTail live tail
+  way-same o x new c same = go (size g b f) refl
+    where
+      go : (s : ℕ) → size g b f ≡ s → wayBy g tall fresh b f o (x ∷ new) c ≡ chosenWay g fresh b f (singleBlock g b f o (o + suc (length new))) o (x ∷ new) c
+      go zero e = rw (e, lt-leb (o + suc (length new)) 0 (omega arith)) (rw e (empty-same o (x ∷ new) c same))
+      go (suc s) e = rw e
+
+pub same-height-rule : SameHeightRule
+unfolding writePlanBy writePlan
+same-height-rule g tall fresh b f o [] same = refl
+same-height-rule g tall fresh b f o (x ∷ new) same =
+    rw (growth-same g tall fresh b f (o + suc (length new)) same)
+    (ap (afterwards (growth g fresh b f (o + suc (length new)))) (way-same g tall fresh (performed b (concat (planEpochs (growth g fresh b f (o + suc (length new)) .steps)))) f o x new _ same))
+
+pub same-plan-rule : SamePlanRule
+same-plan-rule fresh b f o new = same-height-rule house sheetHeight fresh b f o new (sheet-least (o + length new))
