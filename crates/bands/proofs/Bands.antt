@@ -1,9 +1,9 @@
--- The sheet for W words a block and heights up to H: row h begins past the span below and ends with its own. The house's sheet is one.
+-- The bands for W words a block: that of height h begins one past the span of h - 1, and ends with its own. The house's sheet has those for 8 words.
 use mathlib.Core.Path.{_≡_, refl, sym, ap, _∙_}
 use mathlib.Core.Logic.{inl, inr}
 use mathlib.Core.Bool.{Bool, true, false, cond}
 use mathlib.Core.List.{List, [], _∷_, _++_}
-use Prim.Native.Nat.{ℕ, zero, suc, _+_, _-_, _≤_, _<_}
+use Prim.Native.Nat.{ℕ, zero, suc, _+_, _≤_, _<_}
 use native.Mathlib.Omega.{arith}
 use native.Mathlib.Nat.{zero-add}
 use lib.ListN.{length}
@@ -53,12 +53,14 @@ module _ (W : ℕ) where
   abbrev band : ℕ → Band
   band h = row (first h) (span W h) h
 
-  -- up to height h
+  -- those of heights 0 to h
   unfoldable bands : ℕ → List Band
   bands zero = band 0 ∷ []
   bands (suc h) = bands h ++ (band (suc h) ∷ [])
 
 module _ (W : ℕ) (pos : 0 < W) where
+  -- ---- Where a size lies
+
   lies-from : (h e : ℕ) → first W h ≤ e → lies e (band W h) ≡ leb e (span W h)
   unfolding lies row
   lies-from h e l = rw (le-leb (first W h) e l)
@@ -79,6 +81,8 @@ module _ (W : ℕ) (pos : 0 < W) where
   higher : (h e : ℕ) → e ≤ span W h → e ≤ span W (suc h)
   higher h e l = omega (arith, span-mono W pos h (suc h) (omega arith))
 
+  -- ---- The height
+
   bands-height : (off h e : ℕ) → heightIn off (bands W h) e ≡ cond (leb e (span W h)) (least W h e) off
   unfolding bands heightIn row least first
   bands-height off zero e = rw (lies-from 0 e (omega arith))
@@ -88,7 +92,7 @@ module _ (W : ℕ) (pos : 0 < W) where
         | inr more ↦ rw (lt-leb e (span W h) more, lies-from (suc h) e (past-first h e more))
       ]
 
-  -- the height whose band e is in, or the greatest where e is past all bands
+  -- the height of a band that e lies in is the least sufficient one; past all bands the greatest height is
   least-is : (h H e : ℕ) → h ≤ H → first W h ≤ e → (h < H → e ≤ span W h) → h ≡ least W H e
   unfolding least first
   least-is h zero e l from to = le-zero l
@@ -109,7 +113,8 @@ module _ (W : ℕ) (pos : 0 < W) where
     | inr more ↦ rw (lt-leb e (span W h) more) (least-is h h e (omega arith) (from-past h e more) (λ l. absurd (omega arith)))
   ]
 
-  -- each size up to the greatest span lies in one band, and no other in any
+  -- ---- Each size up to the greatest span lies in one band, and every other in none
+
   bands-once : (h e : ℕ) → length (filter (lies e) (bands W h)) ≡ cond (leb e (span W h)) 1 0
   unfolding bands first
   bands-once zero e = rw (lying-one (band W 0) e, lies-from 0 e (omega arith))
@@ -128,7 +133,7 @@ pub sheet-least : LeastRule
 unfolding sheetHeight
 sheet-least e = rw sheet-bands (bands-least 8 (omega arith) 3 e)
 
--- the height of a band that e is in
+-- what the code answers in the band of height h
 pub in-band : (h e : ℕ) → h ≤ 3 → first 8 h ≤ e → (h < 3 → e ≤ span 8 h) → (h ≡ sheetHeight e) × (h ≡ least 8 3 e)
 in-band h e l from to = let is = least-is 8 (omega arith) h 3 e l from to in (is ∙ sym (sheet-least e), is)
 

@@ -1,7 +1,5 @@
 -- A write's plan is the same with every function that gives the least sufficient height where the write ends.
-use mathlib.Core.Path.{_≡_, refl, sym, ap, _∙_}
-use mathlib.Core.Logic.{inl, inr}
-use mathlib.Core.Bool.{Bool, true, false, cond, _&&_}
+use mathlib.Core.Path.{_≡_, refl, ap}
 use mathlib.Core.List.{List, [], _∷_}
 use Prim.Native.Nat.{ℕ, zero, suc, _+_}
 use native.Mathlib.Omega.{arith}
@@ -9,7 +7,7 @@ use lib.ListN.{length}
 use borrow.Author.Tests.{lt-leb}
 use Rattle.model.specs.Lists.{concat}
 use Rattle.model.specs.Layout.{Layout, house}
-use Rattle.model.specs.Tree.{live, span, least}
+use Rattle.model.specs.Tree.{live, least}
 use Rattle.model.specs.Board.{size}
 use Rattle.model.specs.Store.{performed}
 use Rattle.model.specs.Plan.{planEpochs, afterwards}

@@ -6,7 +6,6 @@ use building::take;
 use plans::commit;
 use plans::pair;
 use words::word;
-ghost use mathlib.Core.Path.{_≡_};
 ghost use Prim.Native.Nat.{_%_, _^_, _≤_, _<_};
 ghost use Rattle.model.specs.Layout.{house};
 ghost use Rattle.model.specs.Board.{root};
