@@ -3,12 +3,12 @@
  * bytes under the root, the bytes under each of its pointers (0 at height 0) and the blocks of a full tree. Writes of every size must choose
  * the height that the sheet gives, full trees must have its blocks, and a walk by the sheet's numbers must find each byte.
  */
-#include "testing.h"
-
+#include "counting.h"
 #include "montebeech.h"
 #include "random.h"
 
 #include <inttypes.h>
+#include <stdlib.h>
 
 enum { WORDS = 8192, PLAN = 2 * WORDS, GREATEST = MONTEBEECH_GREATEST_SIZE, BANDS = 4, FILE_NUMBER = 5 };
 

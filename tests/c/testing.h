@@ -3,40 +3,14 @@
 #define TESTING_H
 
 #define _DEFAULT_SOURCE /* mmap and contexts */
-#include <stdarg.h>
-#include <stdbool.h>
+#include "counting.h"
+
 #include <stdint.h>
-#include <stdio.h>
 #include <stdlib.h>
 #include <string.h>
 #include <sys/mman.h>
 #include <ucontext.h>
 #include <unistd.h>
-
-/* ---- Counting */
-
-static unsigned long tests, failed;
-static char subject[200];
-
-/* Names what the tests that follow are about. */
-__attribute__((format(printf, 1, 2))) static void about(const char *format, ...)
-{
-    va_list args;
-    va_start(args, format);
-    vsnprintf(subject, sizeof subject, format, args);
-    va_end(args);
-}
-
-/* Counts a test, and says whether it failed, so that the caller prints the rest of the line. */
-static bool fails(bool as_expected)
-{
-    tests++;
-    if (as_expected)
-        return false;
-    failed++;
-    printf("%s: ", subject);
-    return true;
-}
 
 /* ---- Lent memory */
 

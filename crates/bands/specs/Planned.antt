@@ -14,22 +14,24 @@ use Rattle.model.specs.Plan.{Plan, plan, step, planEpochs, afterwards}
 use Rattle.model.specs.Fresh.{Page, stored, freshPointer, build}
 use Rattle.model.specs.Change.{growthTo, singleBlock, chosenWay}
 
+module _ (g : Layout) (fresh : ℕ → ℕ) (b : List ℕ) (f : ℕ) where
+  -- a tail of an empty file, its tree of height h: as `emptyTail` of Change has it
+  unfoldable pub emptyTailTo : ℕ → ℕ → List ℕ → ℕ → Plan
+  emptyTailTo h o new c =
+      let ps : List Page = build (g .words) fresh b h 0 0 o new c in
+      let hook : Store = store (rootAddress g b f) (freshPointer (g .words) fresh h o (length new) c + h) in
+      plan (step (stored (g .words) fresh ps c ++ (hook ∷ [])) (sizeAddress g b f) (o + length new) ∷ []) (c + length ps)
+
 module _ (g : Layout) (tall : ℕ → ℕ) (fresh : ℕ → ℕ) (b : List ℕ) (f : ℕ) where
   -- *If s > 0 and e exceeds the span, the least sufficient height is reached first*
   unfoldable pub growthBy : ℕ → Plan
   growthBy e = cond (live (size g b f) && ltb (span (g .words) (rootHeight g b f)) e) (growthTo g fresh b f (tall e)) (plan [] 0)
 
-  -- *With s = 0 the old root is ignored and the least sufficient height is used*
-  unfoldable pub emptyTailBy : ℕ → List ℕ → ℕ → Plan
-  emptyTailBy o new c =
-      let h : ℕ = tall (o + length new) in
-      let ps : List Page = build (g .words) fresh b h 0 0 o new c in
-      let hook : Store = store (rootAddress g b f) (freshPointer (g .words) fresh h o (length new) c + h) in
-      plan (step (stored (g .words) fresh ps c ++ (hook ∷ [])) (sizeAddress g b f) (o + length new) ∷ []) (c + length ps)
-
-  -- where s > 0, the ways after growth ask for no height
+  -- *With s = 0 the old root is ignored and the least sufficient height is used*; with s > 0 the ways after growth ask for none
   unfoldable pub wayBy : ℕ → List ℕ → ℕ → Plan
-  wayBy o new c = cond (live (size g b f)) (chosenWay g fresh b f (singleBlock g b f o (o + length new)) o new c) (emptyTailBy o new c)
+  wayBy o new c =
+      cond (live (size g b f)) (chosenWay g fresh b f (singleBlock g b f o (o + length new)) o new c)
+      (emptyTailTo g fresh b f (tall (o + length new)) o new c)
 
 module _ (g : Layout) (tall : ℕ → ℕ) (fresh : ℕ → ℕ) (b : List ℕ) (f : ℕ) where
   unfoldable pub writePlanBy : ℕ → List ℕ → Plan
