@@ -4,7 +4,7 @@
 use crate::boards::{inode, SPAN};
 
 /// The last size of each band and the first of the next. No write with a plan ends at 0.
-const ENDS: [u64; 7] = [64, 65, 512, 513, 4096, 4097, 32768];
+pub const ENDS: [u64; 7] = [64, 65, 512, 513, 4096, 4097, 32768];
 
 /// Plans of writes that end at each of these sizes.
 #[derive(Default)]
