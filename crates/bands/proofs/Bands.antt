@@ -1,8 +1,8 @@
 -- The bands for W words a block: that of height h begins one past the span of h - 1, and ends with its own. The house's sheet has those for 8 words.
-use mathlib.Core.Path.{_≡_, refl, sym, ap, _∙_}
+use mathlib.Core.Path.{_≡_, refl, sym, _∙_}
 use mathlib.Core.Logic.{inl, inr}
 use mathlib.Core.Bool.{Bool, true, false, cond}
-use mathlib.Core.List.{List, [], _∷_, _++_}
+use mathlib.Core.List.{List, [], _∷_, _++_, append-assoc, append-nil}
 use Prim.Native.Nat.{ℕ, zero, suc, _+_, _≤_, _<_}
 use native.Mathlib.Omega.{arith}
 use native.Mathlib.Nat.{zero-add}
@@ -18,11 +18,6 @@ use Rattle.bands.specs.Sheet.{Band, row, sheet, lies, heightIn, sheetHei
 use Rattle.bands.specs.Claims.{SheetRule, BandsRule, LeastRule}
 
 -- ---- Rows one after another
-
-heights-append : (off : ℕ) (xs ys : List Band) (e : ℕ) → heightIn off (xs ++ ys) e ≡ heightIn (heightIn off ys e) xs e
-unfolding heightIn
-heights-append off [] ys e = refl
-heights-append off (x ∷ xs) ys e = ap (cond (lies e x) (x .height)) (heights-append off xs ys e)
 
 lying-append : (xs ys : List Band) (e : ℕ) → length (filter (lies e) (xs ++ ys)) ≡ length (filter (lies e) xs) + length (filter (lies e) ys)
 unfolding filter consIf
@@ -73,44 +68,26 @@ module _ (W : ℕ) (pos : 0 < W) where
   unfolding first
   past-first h e more = omega arith
 
-  from-past : (h e : ℕ) → span W h < e → first W h ≤ e
-  unfolding first
-  from-past zero e more = omega arith
-  from-past (suc h) e more = omega (arith, span-mono W pos h (suc h) (omega arith))
-
   higher : (h e : ℕ) → e ≤ span W h → e ≤ span W (suc h)
   higher h e l = omega (arith, span-mono W pos h (suc h) (omega arith))
 
   -- ---- The height
 
-  bands-height : (off h e : ℕ) → heightIn off (bands W h) e ≡ cond (leb e (span W h)) (least W h e) off
+  bands-height : (rest : List Band) (h e : ℕ) → heightIn (bands W h ++ rest) e ≡ cond (leb e (span W h)) (least W h e) (heightIn rest e)
   unfolding bands heightIn row least first
-  bands-height off zero e = rw (lies-from 0 e (omega arith))
-  bands-height off (suc h) e =
-      heights-append off (bands W h) (band W (suc h) ∷ []) e ∙ bands-height (cond (lies e (band W (suc h))) (suc h) off) h e ∙ elim (split e (span W h)) [
-        | inl l ↦ rw (le-leb e (span W h) l, le-leb e (span W (suc h)) (higher h e l))
-        | inr more ↦ rw (lt-leb e (span W h) more, lies-from (suc h) e (past-first h e more))
-      ]
+  bands-height rest zero e = rw (lies-from 0 e (omega arith))
+  bands-height rest (suc h) e = rw (append-assoc (bands W h) (band W (suc h) ∷ []) rest, bands-height (band W (suc h) ∷ rest) h e) (elim (split e (span W h)) [
+    | inl l ↦ rw (le-leb e (span W h) l, le-leb e (span W (suc h)) (higher h e l))
+    | inr more ↦ rw (lt-leb e (span W h) more, lies-from (suc h) e (past-first h e more))
+  ])
 
-  -- the height of a band that e lies in is the least sufficient one; past all bands the greatest height is
-  least-is : (h H e : ℕ) → h ≤ H → first W h ≤ e → (h < H → e ≤ span W h) → h ≡ least W H e
+  -- the height of the band that e lies in
+  least-is : (h H e : ℕ) → h ≤ H → first W h ≤ e → e ≤ span W h → h ≡ least W H e
   unfolding least first
   least-is h zero e l from to = le-zero l
-  least-is h (suc H) e l from to = elim (split e (span W H)) [
-    | inl u ↦ rw (le-leb e (span W H) u) (elim (split h H) [
-      | inl v ↦ least-is h H e v from (λ w. to (omega arith))
-      | inr v ↦ let top : h ≡ suc H = omega arith in absurd (omega (arith, rw top at from))
-    ])
-    | inr u ↦ rw (lt-leb e (span W H) u) (elim (split h H) [
-      | inl v ↦ absurd (omega (arith, to (omega arith), span-mono W pos h H v))
-      | inr v ↦ omega arith
-    ])
-  ]
-
-  bands-least : (h e : ℕ) → heightIn h (bands W h) e ≡ least W h e
-  bands-least h e = bands-height h h e ∙ elim (split e (span W h)) [
-    | inl l ↦ rw (le-leb e (span W h) l)
-    | inr more ↦ rw (lt-leb e (span W h) more) (least-is h h e (omega arith) (from-past h e more) (λ l. absurd (omega arith)))
+  least-is h (suc H) e l from to = elim (split h H) [
+    | inl v ↦ rw (le-leb e (span W H) (omega (arith, span-mono W pos h H v))) (least-is h H e v from to)
+    | inr v ↦ let top : h ≡ suc H = omega arith in rw (lt-leb e (span W H) (omega (arith, rw top at from))) top
   ]
 
   -- ---- Each size up to the greatest span lies in one band, and every other in none
@@ -125,21 +102,27 @@ module _ (W : ℕ) (pos : 0 < W) where
 
 -- ---- The house's sheet
 
-sheet-bands : sheet ≡ bands 8 3
+sheet-bands : sheet ≡ bands 8 3 ++ []
 unfolding sheet bands row first span
 sheet-bands = refl
 
-pub sheet-least : LeastRule
-unfolding sheetHeight
-sheet-least e = rw sheet-bands (bands-least 8 (omega arith) 3 e)
+sheet-height : (e : ℕ) → sheetHeight e ≡ cond (leb e 32768) (least 8 3 e) 0
+unfolding sheetHeight heightIn span
+sheet-height e = rw sheet-bands (bands-height 8 (omega arith) [] 3 e)
 
--- what the code answers in the band of height h
-pub in-band : (h e : ℕ) → h ≤ 3 → first 8 h ≤ e → (h < 3 → e ≤ span 8 h) → (h ≡ sheetHeight e) × (h ≡ least 8 3 e)
-in-band h e l from to = let is = least-is 8 (omega arith) h 3 e l from to in (is ∙ sym (sheet-least e), is)
+pub least-rule : LeastRule
+least-rule e l = sheet-height e ∙ rw (le-leb e 32768 l)
+
+-- what the code answers in the band of height h, and off the sheet
+pub in-band : (h e : ℕ) → h ≤ 3 → first 8 h ≤ e → e ≤ span 8 h → e ≤ 32768 → h ≡ sheetHeight e
+in-band h e l from to most = least-is 8 (omega arith) h 3 e l from to ∙ sym (least-rule e most)
+
+pub off-sheet : (e : ℕ) → 32768 < e → 0 ≡ sheetHeight e
+off-sheet e more = sym (sheet-height e ∙ rw (lt-leb e 32768 more))
 
 pub sheet-rule : SheetRule
-sheet-rule e l = rw (sheet-least e) (least-reaches 8 (omega arith) 3 e (rw (house-spans .3) l), least-least 8 (omega arith) 3 e)
+sheet-rule e l = rw (least-rule e l) (least-reaches 8 (omega arith) 3 e (rw (house-spans .3) l), least-least 8 (omega arith) 3 e)
 
 pub bands-rule : BandsRule
 unfolding span
-bands-rule e = rw sheet-bands (bands-once 8 (omega arith) 3 e)
+bands-rule e = rw (sheet-bands, append-nil (bands 8 3)) (bands-once 8 (omega arith) 3 e)

@@ -13,11 +13,11 @@ use Rattle.model.specs.Tree.{live, span, least}
 use Rattle.model.specs.Board.{rootHeight, size}
 use Rattle.model.specs.Store.{performed}
 use Rattle.model.specs.Plan.{plan, planEpochs, afterwards}
-use Rattle.model.specs.Change.{growthTo, growth, singleBlock, isTail, emptyTail, tail, chosenWay, writePlan}
+use Rattle.model.specs.Change.{growthTo, growth, singleBlock, isTail, emptyTailTo, emptyTail, tail, chosenWay, writePlan}
 use Rattle.bands.specs.Sheet.{sheetHeight}
-use Rattle.bands.specs.Planned.{emptyTailTo, growthBy, wayBy, writePlanBy}
+use Rattle.bands.specs.Planned.{growthBy, wayBy, writePlanBy}
 use Rattle.bands.specs.Claims.{SameHeightRule, SamePlanRule}
-use Rattle.bands.proofs.Bands.{sheet-least}
+use Rattle.bands.proofs.Bands.{least-rule}
 
 module _ (g : Layout) (tall fresh : ℕ → ℕ) (b : List ℕ) (f : ℕ) where
   growth-same : (e : ℕ) → tall e ≡ least (g .words) (g .height) e → growthBy g tall fresh b f e ≡ growth g fresh b f e
@@ -26,7 +26,7 @@ module _ (g : Layout) (tall fresh : ℕ → ℕ) (b : List ℕ) (f : ℕ) where
 
   empty-same : (o : ℕ) (new : List ℕ) (c : ℕ) → tall (o + length new) ≡ least (g .words) (g .height) (o + length new)
       → emptyTailTo g fresh b f (tall (o + length new)) o new c ≡ emptyTail g fresh b f o new c
-  unfolding emptyTailTo emptyTail
+  unfolding emptyTail
   empty-same o new c same = ap (λ (h : ℕ). emptyTailTo g fresh b f h o new c) same
 
   -- with s = 0 the way is the tail's
@@ -47,4 +47,4 @@ same-height-rule g tall fresh b f o (x ∷ new) same =
     (ap (afterwards (growth g fresh b f (o + suc (length new)))) (way-same g tall fresh (performed b (concat (planEpochs (growth g fresh b f (o + suc (length new)) .steps)))) f o x new _ same))
 
 pub same-plan-rule : SamePlanRule
-same-plan-rule fresh b f o new = same-height-rule house sheetHeight fresh b f o new (sheet-least (o + length new))
+same-plan-rule fresh b f o new l = same-height-rule house sheetHeight fresh b f o new (least-rule (o + length new) l)

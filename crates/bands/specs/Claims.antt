@@ -20,15 +20,16 @@ SheetRule = (e : ℕ) → e ≤ 32768 → (e ≤ span 8 (sheetHeight e)) × ((h 
 abbrev pub BandsRule : Type 0
 BandsRule = (e : ℕ) → length (filter (lies e) sheet) ≡ cond (leb e 32768) 1 0
 
--- the height by the bands is the definition's *least sufficient height*, at the house's figures
+-- it is the height that plans ask for: `least`, at the house's figures
 abbrev pub LeastRule : Type 0
-LeastRule = (e : ℕ) → sheetHeight e ≡ least (house .words) (house .height) e
+LeastRule = (e : ℕ) → e ≤ 32768 → sheetHeight e ≡ least (house .words) (house .height) e
 
 -- *no plan changes*: a height function that agrees with the least sufficient height where a write ends gives that write's plan, on every kind of board
 abbrev pub SameHeightRule : Type 0
 SameHeightRule = (g : Layout) (tall fresh : ℕ → ℕ) (b : List ℕ) (f o : ℕ) (new : List ℕ)
     → tall (o + length new) ≡ least (g .words) (g .height) (o + length new) → writePlanBy g tall fresh b f o new ≡ writePlan g fresh b f o new
 
--- and the sheet's is one, on the house's board
+-- and the sheet's is one, on the house's board, where 6 is not refused
 abbrev pub SamePlanRule : Type 0
-SamePlanRule = (fresh : ℕ → ℕ) (b : List ℕ) (f o : ℕ) (new : List ℕ) → writePlanBy house sheetHeight fresh b f o new ≡ writePlan house fresh b f o new
+SamePlanRule = (fresh : ℕ → ℕ) (b : List ℕ) (f o : ℕ) (new : List ℕ)
+    → o + length new ≤ 32768 → writePlanBy house sheetHeight fresh b f o new ≡ writePlan house fresh b f o new

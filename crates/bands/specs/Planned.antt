@@ -1,33 +1,24 @@
--- A write as `writePlan` of Change has it, with the height chosen by any function `tall`. Document 01 asks for *the least sufficient height* in two
--- places, in growth and in a tail of an empty file; these are all the places where `tall` stands.
+-- A write's plan with the height chosen by any function `tall`, where `writePlan` of Change has *the least sufficient height*: in growth, and in a tail
+-- of an empty file. No other way asks for a height.
 use mathlib.Core.Bool.{cond, _&&_}
-use mathlib.Core.List.{List, [], _∷_, _++_}
+use mathlib.Core.List.{List, [], _∷_}
 use Prim.Native.Nat.{ℕ, suc, _+_}
 use lib.ListN.{length}
 use lib.Dec.{ltb}
 use Rattle.model.specs.Lists.{concat}
 use Rattle.model.specs.Layout.{Layout}
 use Rattle.model.specs.Tree.{live, span}
-use Rattle.model.specs.Board.{rootAddress, rootHeight, size, sizeAddress}
-use Rattle.model.specs.Store.{Store, store, performed}
-use Rattle.model.specs.Plan.{Plan, plan, step, planEpochs, afterwards}
-use Rattle.model.specs.Fresh.{Page, stored, freshPointer, build}
-use Rattle.model.specs.Change.{growthTo, singleBlock, chosenWay}
-
-module _ (g : Layout) (fresh : ℕ → ℕ) (b : List ℕ) (f : ℕ) where
-  -- a tail of an empty file, its tree of height h: as `emptyTail` of Change has it
-  unfoldable pub emptyTailTo : ℕ → ℕ → List ℕ → ℕ → Plan
-  emptyTailTo h o new c =
-      let ps : List Page = build (g .words) fresh b h 0 0 o new c in
-      let hook : Store = store (rootAddress g b f) (freshPointer (g .words) fresh h o (length new) c + h) in
-      plan (step (stored (g .words) fresh ps c ++ (hook ∷ [])) (sizeAddress g b f) (o + length new) ∷ []) (c + length ps)
+use Rattle.model.specs.Board.{rootHeight, size}
+use Rattle.model.specs.Store.{performed}
+use Rattle.model.specs.Plan.{Plan, plan, planEpochs, afterwards}
+use Rattle.model.specs.Change.{growthTo, singleBlock, emptyTailTo, chosenWay}
 
 module _ (g : Layout) (tall : ℕ → ℕ) (fresh : ℕ → ℕ) (b : List ℕ) (f : ℕ) where
   -- *If s > 0 and e exceeds the span, the least sufficient height is reached first*
   unfoldable pub growthBy : ℕ → Plan
   growthBy e = cond (live (size g b f) && ltb (span (g .words) (rootHeight g b f)) e) (growthTo g fresh b f (tall e)) (plan [] 0)
 
-  -- *With s = 0 the old root is ignored and the least sufficient height is used*; with s > 0 the ways after growth ask for none
+  -- *With s = 0 the old root is ignored and the least sufficient height is used*
   unfoldable pub wayBy : ℕ → List ℕ → ℕ → Plan
   wayBy o new c =
       cond (live (size g b f)) (chosenWay g fresh b f (singleBlock g b f o (o + length new)) o new c)

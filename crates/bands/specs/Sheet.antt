@@ -4,13 +4,13 @@ use mathlib.Core.List.{List, [], _∷_}
 use Prim.Native.Nat.{ℕ}
 use lib.Dec.{leb}
 
--- a row of the sheet: a file of `first` to `last` bytes has a tree of this height
+-- a row of the sheet: for `first` to `last` bytes a tree of this height is chosen
 pub record Band : Type 0 where
   pub first : ℕ
   pub last : ℕ
   pub height : ℕ
 
--- the row `first` to `last`
+-- the row for x to y bytes
 unfoldable pub row : ℕ → ℕ → ℕ → Band
 row x y h = record { first = x; last = y; height = h }
 
@@ -22,11 +22,11 @@ sheet = row 0 64 0 ∷ row 65 512 1 ∷ row 513 4096 2 ∷ row 4097 32768 3 ∷ 
 unfoldable pub lies : ℕ → Band → Bool
 lies e r = leb (r .first) e && leb e (r .last)
 
--- the height of the first row that e lies in, or `off` where there is none
-unfoldable pub heightIn : ℕ → List Band → ℕ → ℕ
-heightIn off [] e = off
-heightIn off (r ∷ rs) e = cond (lies e r) (r .height) (heightIn off rs e)
+-- the height of the first row that e lies in; 0 where there is none
+unfoldable pub heightIn : List Band → ℕ → ℕ
+heightIn [] e = 0
+heightIn (r ∷ rs) e = cond (lies e r) (r .height) (heightIn rs e)
 
--- *choose by those bands*. Off the sheet, above 32,768 bytes, it is the greatest height; no plan asks there, since 6 is refused before
+-- *choose by those bands*
 unfoldable pub sheetHeight : ℕ → ℕ
-sheetHeight e = heightIn 3 sheet e
+sheetHeight e = heightIn sheet e

@@ -20,7 +20,7 @@ use Rattle.model.specs.Store.{Store, store, performed}
 use Rattle.model.specs.Plan.{Plan, plan, step, planEpochs, afterwards}
 use Rattle.model.specs.Fresh.{Page, splice, part, partLength, touched, freshNeed, freshBefore, dataPage, stored, freshPointer, pointerPage, build}
 use Rattle.model.specs.InPlace.{atBlock, tailBefore, walkLive, tailPages, tailWords, hooked, inPlace}
-use Rattle.model.specs.Change.{levels, levelTop, growthTo, growth, splicedWord, singleBlock, singleWord, isTail, emptyTail, tail, Shadow, descend, shadowInside, leafPage, shadowWithLength, chosenWay, writePlan, cleared, lengthPlan}
+use Rattle.model.specs.Change.{levels, levelTop, growthTo, growth, splicedWord, singleBlock, singleWord, isTail, emptyTailTo, emptyTail, tail, Shadow, descend, shadowInside, leafPage, shadowWithLength, chosenWay, writePlan, cleared, lengthPlan}
 use Rattle.model.proofs.Perform.{All, all-append, length-performed, performed-away, blocks-differ, stored-blocks}
 use Rattle.model.proofs.Shown.{count-kept}
 use Rattle.model.proofs.Steps.{steps-stores}
@@ -178,7 +178,7 @@ module _ (g : Layout) {b b′ : List ℕ} (same : Alike (g .words) b b′) {f : 
         λ t. cond (live (sizes t) && ltb (span (g .words) (root-word t % g .words)) e) (growth-to-alike (least (g .words) (g .height) e) t) (plan [] 0)
 
     empty-tail-alike : (o : ℕ) (new : List ℕ) (c : ℕ) → emptyTail g fresh b f o new c ≡ emptyTail g fresh b′ f o new c
-    unfolding emptyTail
+    unfolding emptyTailTo emptyTail
     empty-tail-alike o new c = λ t.
         let h : ℕ = least (g .words) (g .height) (o + length new) in
         let ps : List Page = build-alike (g .words) same fresh h 0 0 o new c t in

@@ -9,7 +9,7 @@ use Rattle.model.specs.Hidden.{keepsBytes, hiddenUnder, hiddenInFile, hi
 use Rattle.model.specs.Plan.{step, stepEpochs, planEpochs, plan, pairs, afterwards}
 use Rattle.model.specs.Fresh.{splice, part, partLength, touched, freshNeed, freshBefore, need, dataPage, stored, freshPointer, pointerPage, build}
 use Rattle.model.specs.InPlace.{atBlock, tailNeed, tailBefore, walkLive, tailPages, tailWords, hooked, inPlace}
-use Rattle.model.specs.Change.{levelPage, levelBelow, levels, levelTop, growthTo, growth, splicedWord, singleBlock, singleWord, isTail, emptyTail, tail, descend, shadowInside, leafPage, shadowWithLength, chosenWay, writePlan, cleared, lengthPlan}
+use Rattle.model.specs.Change.{levelPage, levelBelow, levels, levelTop, growthTo, growth, splicedWord, singleBlock, singleWord, isTail, emptyTailTo, emptyTail, tail, descend, shadowInside, leafPage, shadowWithLength, chosenWay, writePlan, cleared, lengthPlan}
 use Rattle.model.specs.Format.{inodePage, formatPages, trailerAddress, trailerStores, formatPlan}
 use Rattle.model.specs.Answers.{number, signed, answered, unlessRefused, counted}
 use Rattle.model.specs.Calls.{wordCountFault, boardFaults, fileFaults, checkAnswer, freeCountAnswer, sizeAnswer, readCount, readAnswer, readBuffer, planned, lowest, writeFaults, write, setLength, format, performFaults, performAnswer, performBoard}
@@ -28,7 +28,7 @@ unfolding tabulate joined sum every some all consIf filter concat pickFrom membe
     step stepEpochs planEpochs plan pairs afterwards
     splice part partLength touched freshNeed freshBefore need dataPage stored freshPointer pointerPage build
     atBlock tailNeed tailBefore walkLive tailPages tailWords hooked inPlace
-    levelPage levelBelow levels levelTop growthTo growth splicedWord singleBlock singleWord isTail emptyTail tail descend shadowInside leafPage shadowWithLength chosenWay writePlan cleared lengthPlan
+    levelPage levelBelow levels levelTop growthTo growth splicedWord singleBlock singleWord isTail emptyTailTo emptyTail tail descend shadowInside leafPage shadowWithLength chosenWay writePlan cleared lengthPlan
     inodePage formatPages trailerAddress trailerStores formatPlan
     number signed answered unlessRefused counted
     wordCountFault boardFaults fileFaults checkAnswer freeCountAnswer sizeAnswer readCount readAnswer readBuffer planned lowest writeFaults write setLength format performFaults performAnswer performBoard

@@ -16,7 +16,7 @@ use Rattle.model.specs.Store.{performed, stores, fenced}
 use Rattle.model.specs.Plan.{Plan, plan, Step, planEpochs, afterwards, pairs}
 use Rattle.model.specs.Fresh.{freshNeed, need, build}
 use Rattle.model.specs.InPlace.{atBlock}
-use Rattle.model.specs.Change.{growthTo, growth, singleBlock, isTail, emptyTail, tail, shadowWithLength, chosenWay, writePlan}
+use Rattle.model.specs.Change.{growthTo, growth, singleBlock, isTail, emptyTailTo, emptyTail, tail, shadowWithLength, chosenWay, writePlan}
 use Rattle.model.specs.Calls.{lowest, writeFaults, write}
 use Rattle.model.specs.Cut.{called, planFor, overwritten}
 use Rattle.model.specs.Claims.{PastEnd, PastEndRule}
@@ -86,7 +86,7 @@ module _ (g : Layout) (fit : Fits g) (b : List ℕ) (t : T (accepted g b)) (f : 
   ]
 
   past-empty : size g b f ≡ 0 → Past (emptyTail g fresh b f o new c)
-  unfolding emptyTail plan allCommitted atBlock
+  unfolding emptyTailTo emptyTail plan allCommitted atBlock
   past-empty z room among =
       let h : ℕ = least W (g .height) (o + length new) in
       let count : freshNeed W b h 0 0 o (length new) ≡ need W h o (length new) = fresh-quiet W b h 0 0 o (length new) (inl refl) in

@@ -17,7 +17,7 @@ use Rattle.model.specs.Store.{Store, performed, stores}
 use Rattle.model.specs.Plan.{planEpochs, Plan, pairs, plan}
 use Rattle.model.specs.Fresh.{freshNeed, need}
 use Rattle.model.specs.InPlace.{tailNeed}
-use Rattle.model.specs.Change.{growthTo, emptyTail, tail, descend, shadowInside, shadowWithLength}
+use Rattle.model.specs.Change.{growthTo, emptyTailTo, emptyTail, tail, descend, shadowInside, shadowWithLength}
 use Rattle.model.specs.Calls.{lowest}
 use Rattle.model.specs.Cut.{Change, fileOf, called, planOf, altered, planFor}
 use Rattle.model.specs.Claims.{FreshRule}
@@ -89,7 +89,7 @@ module _ (g : Layout) (pos : 0 < g .words) (fresh : ℕ → ℕ) (b : List ℕ) 
 
   module _ (new : List ℕ) (c : ℕ) where
     pub empty-tail-needs : (o : ℕ) → emptyTail g fresh b f o new c .taken ≡ c + need (g .words) (least (g .words) (g .height) (o + length new)) o (length new)
-    unfolding emptyTail plan
+    unfolding emptyTailTo emptyTail plan
     empty-tail-needs o = ap (λ (x : ℕ). c + x) (length-build-null (g .words) pos b fresh (least (g .words) (g .height) (o + length new)) 0 o new c)
 
     pub tail-needs : (s o : ℕ) → tail g fresh b f (suc s) o new c .taken ≡ c + tailNeed (g .words) (root g b f % g .words) (suc s) (length new)

@@ -19,7 +19,7 @@ use Rattle.model.specs.Store.{Store, store}
 use Rattle.model.specs.Plan.{Plan, plan, Step, step}
 use Rattle.model.specs.Fresh.{Page, stored, freshPointer}
 use Rattle.model.specs.InPlace.{atBlock, walkLive, tailPages, inPlace}
-use Rattle.model.specs.Change.{singleBlock, singleWord, isTail, emptyTail, tail, shadowInside, shadowWithLength, chosenWay}
+use Rattle.model.specs.Change.{singleBlock, singleWord, isTail, emptyTailTo, emptyTail, tail, shadowInside, shadowWithLength, chosenWay}
 use Rattle.model.specs.Cut.{overwritten}
 use Rattle.model.proofs.Cases.{split, decide, true-left, true-right}
 use Rattle.model.proofs.Counting.{occ}
@@ -149,7 +149,7 @@ module _ (g : Layout) (fit : Fits g) (b : List ℕ) (t : T (accepted g b)) (f : 
       passes (suc s) u l z = z
 
   empty-tail-way : size g b f ≡ 0 → Good (emptyTail g fresh b f o new c)
-  unfolding emptyTail plan step store All
+  unfolding emptyTailTo emptyTail plan step store All
   empty-tail-way z room = one-good _ (o + length new) _ (omega arith)
       (empty-tail-good g fit b t f f-lt new some small fresh c lim supply z o most room)
       (record { pages = _; others = _; is = refl; count = refl; others-live = (inode-live-at (rootAddress g b f) (root-block g fit b f), tt); commit-live = inode-live-at (sizeAddress g b f) (size-block g fit b f) })
@@ -213,7 +213,7 @@ module _ (g : Layout) (fit : Fits g) (b : List ℕ) (t : T (accepted g b)) (f : 
 
 -- each takes blocks from number c on
 pub taken-from : (g : Layout) (fresh : ℕ → ℕ) (b : List ℕ) (f : ℕ) (end : WalkEnd) (o : ℕ) (new : List ℕ) (c : ℕ) → c ≤ chosenWay g fresh b f end o new c .taken
-unfolding chosenWay singleWord emptyTail tail shadowInside shadowWithLength plan
+unfolding chosenWay singleWord emptyTailTo emptyTail tail shadowInside shadowWithLength plan
 taken-from g fresh b f (Block K) o new c = omega arith
 taken-from g fresh b f Hole o new c = by (isTail g b f o) (leb (o + length new) (size g b f))
   where

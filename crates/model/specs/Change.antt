@@ -75,13 +75,16 @@ module _ (g : Layout) (b : List ℕ) (f : ℕ) where
   isTail o = not (live (size g b f)) || eqb o (size g b f) && atBlock (walkLive (g .words) b (rootHeight g b f) (rootBlock g b f) (size g b f))
 
 module _ (g : Layout) (fresh : ℕ → ℕ) (b : List ℕ) (f : ℕ) where
-  -- *With s = 0 the old root is ignored and the least sufficient height is used*, *with holes left null*
-  unfoldable pub emptyTail : ℕ → List ℕ → ℕ → Plan
-  emptyTail o new c =
-      let h : ℕ = least (g .words) (g .height) (o + length new) in
+  -- with s = 0, to height h: *the old root is ignored*, *with holes left null*
+  unfoldable pub emptyTailTo : ℕ → ℕ → List ℕ → ℕ → Plan
+  emptyTailTo h o new c =
       let ps : List Page = build (g .words) fresh b h 0 0 o new c in
       let hook : Store = store (rootAddress g b f) (freshPointer (g .words) fresh h o (length new) c + h) in
       plan (step (stored (g .words) fresh ps c ++ (hook ∷ [])) (sizeAddress g b f) (o + length new) ∷ []) (c + length ps)
+
+  -- *the least sufficient height is used*
+  unfoldable pub emptyTail : ℕ → List ℕ → ℕ → Plan
+  emptyTail o new c = emptyTailTo (least (g .words) (g .height) (o + length new)) o new c
 
   -- *one epoch of hidden stores, then the size alone*. With s > 0, o is s
   unfoldable pub tail : ℕ → ℕ → List ℕ → ℕ → Plan

@@ -16,7 +16,7 @@ use Rattle.model.specs.Board.{rootAddress, rootHeight, rootBlock, root, size, f
 use Rattle.model.specs.Store.{Store, store, barrier, performed, fenced, flat, paired, laid}
 use Rattle.model.specs.Plan.{Step, Plan, plan, step, stepEpochs, planEpochs, pairs, afterwards}
 use Rattle.model.specs.Fresh.{Page, stored}
-use Rattle.model.specs.Change.{levels, levelTop, growthTo, growth, isTail, singleWord, emptyTail, tail, shadowInside, shadowWithLength, chosenWay}
+use Rattle.model.specs.Change.{levels, levelTop, growthTo, growth, isTail, singleWord, emptyTailTo, emptyTail, tail, shadowInside, shadowWithLength, chosenWay}
 use Rattle.model.specs.Calls.{lowest}
 use Rattle.model.proofs.Spans.{house-spans}
 use Rattle.model.proofs.Perform.{length-performed, performed-append, length-stored}
@@ -82,7 +82,7 @@ both-laid {p = p} {q = q} u v first place fence next second =
 
 -- each way is one step
 way-some : (g : Layout) (fresh : ℕ → ℕ) (b : List ℕ) (f : ℕ) (end : WalkEnd) (o : ℕ) (new : List ℕ) (c : ℕ) → 0 < length (chosenWay g fresh b f end o new c .steps)
-unfolding chosenWay singleWord emptyTail tail shadowInside shadowWithLength plan
+unfolding chosenWay singleWord emptyTailTo emptyTail tail shadowInside shadowWithLength plan
 way-some g fresh b f (Block k) o new c = omega arith
 way-some g fresh b f Hole o new c = by (isTail g b f o) (leb (o + length new) (size g b f))
   where

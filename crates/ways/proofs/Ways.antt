@@ -17,7 +17,7 @@ use Rattle.model.specs.Store.{Store, store, laid}
 use Rattle.model.specs.Plan.{Plan, step, plan, pairs}
 use Rattle.model.specs.Fresh.{Page, freshNeed, stored, freshPointer, build}
 use Rattle.model.specs.InPlace.{atBlock, walkLive, tailNeed, tailPages, inPlace}
-use Rattle.model.specs.Change.{isTail, emptyTail, tail, shadowInside, leafPage, shadowWithLength, chosenWay}
+use Rattle.model.specs.Change.{isTail, emptyTailTo, emptyTail, tail, shadowInside, leafPage, shadowWithLength, chosenWay}
 use Rattle.model.proofs.Trees.{live-some}
 use Rattle.model.proofs.Perform.{address-block, address-place}
 use Rattle.model.proofs.Paths.{touched-new, fresh-pos}
@@ -96,7 +96,7 @@ pub empty-laid : {b c free new plan plan₁ plan₂ plan₃ : List ℕ} {base f 
     → plan₂ ≡ laid plan₁ (base + 8 * t′) (store a (8 * top + h) ∷ [])
     → Laid plan₂ (base + 8 * t′ + 1) (closing (base + 8 * t′ + 1 - (base + 8 * t)) (store (a + 1) (o + length new))) plan₃ q
     → PlanLaid plan (base + 8 * t) (emptyTail house (taking free) c f o new t) plan₃ (record { pairs = q; taken = t′ })
-unfolding emptyTail sizeAddress freshPointer taking
+unfolding emptyTailTo emptyTail sizeAddress freshPointer taking
 empty-laid {c = c} {free} {new} {o = o} {a} {h} {t} {t′} ready at eh took et e l =
     let count = length-build-null 8 (omega arith) c (taking free) h 0 o new t in
     let hidden = Laying.more (Taken.laid-pages took) (Laying.one e) in

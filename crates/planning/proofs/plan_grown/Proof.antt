@@ -5,6 +5,8 @@ use native.Mathlib.Omega.{arith}
 use lib.ListN.{length, length-take}
 use borrow.Author.Needs.{needs}
 use borrow.Author.Tests.{not-true, not-false}
+use Rattle.model.specs.Tree.{least}
+use Rattle.bands.proofs.Bands.{least-rule}
 use Rattle.planning.specs.Asked.{growing}
 use Rattle.planning.proofs.Grown as Grown
 use Rattle.planning.proofs.plan_grown.Statement.{statement}
@@ -29,16 +31,21 @@ grows : (c : tie.After-least-height) → let a = c .before .before .before .befo
     growing (a .board .now) (a .file) (a .o + length (a .new .now)) ≡ true
 grows c = sym (c .before .before .grows .ensures) ∙ not-false _ (c .before .if1 .left)
 
+height : (c : tie.After-least-height) → let a = c .before .before .before .before .before .before .before .args in c .least-height .result ≡ least 8 3 (a .o + length (a .new .now))
+height c =
+    let s = c .before .before .before .before .before .before .before in
+    c .least-height .ensures ∙ least-rule (s .args .o + length (s .args .new .now)) (s .pre .asked .end)
+
 grow-requires : tie.Need-grow-requires
-grow-requires c κs = let h = c .before in Grown.may-grow (h .before .before .before .before .before .before .before .pre) (grows h) (h .least-height .ensures .1)
+grow-requires c κs = let h = c .before in Grown.may-grow (h .before .before .before .before .before .before .before .pre) (grows h) (height h)
 
 grow-requires-2 : tie.Need-grow-requires-2
 grow-requires-2 c κs = let h = c .before .before .before .before in
-    Grown.may-grow (h .before .before .before .before .before .before .before .pre) (grows h) (h .least-height .ensures .1)
+    Grown.may-grow (h .before .before .before .before .before .before .before .pre) (grows h) (height h)
 
 counted : (c : tie.After-grow) → Grown.GrowthCount (c .grow .result)
 counted c = let h = c .before .before in
-    Grown.counted (h .before .before .before .before .before .before .before .pre) (grows h) (h .least-height .ensures .1) (c .grow .ensures)
+    Grown.counted (h .before .before .before .before .before .before .before .pre) (grows h) (height h) (c .grow .ensures)
 
 mul-end : tie.Need-mul-end
 mul-end c = omega (arith, counted (c .before .before .before .before .before .before .before .before .before))
@@ -62,7 +69,7 @@ slice-aggregate-way-2 c = let w = c .before .before .before .before .before .bef
 
 way-requires-2 : tie.Need-way-requires-2
 way-requires-2 c κs = let w = c .before .before .before .before .before .before .before .before .before .before .before .before .before in let h = w .before .before in
-    Grown.grown-ready (h .before .before .before .before .before .before .before .pre) (grows h) (h .least-height .ensures .1) (w .grow .ensures) (omega arith)
+    Grown.grown-ready (h .before .before .before .before .before .before .before .pre) (grows h) (height h) (w .grow .ensures) (omega arith)
 
 returns-2 : tie.Need-returns-2
 returns-2 c =
@@ -71,7 +78,7 @@ returns-2 c =
     let m = n .before .before .before .before in
     let w = m .before .before .before in
     let h = w .before .before in
-    Grown.grown-laid (h .before .before .before .before .before .before .before .pre) (grows h) (h .least-height .ensures .1) (w .grow .ensures) (omega arith)
+    Grown.grown-laid (h .before .before .before .before .before .before .before .pre) (grows h) (height h) (w .grow .ensures) (omega arith)
     (m .grow2 .ensures) (n .barrier .ensures) (a .way2 .ensures)
 
 pub plan-grown-spec : {M : Type 1} → statement M

@@ -1,17 +1,25 @@
+use mathlib.Core.Path.{_≡_, _∙_}
 use Prim.Native.Nat.{_+_, _≤_}
 use native.Mathlib.Omega.{arith}
 use lib.ListN.{length}
 use borrow.Author.Needs.{needs}
+use Rattle.model.specs.Tree.{least}
 use Rattle.model.proofs.Spans.{least-within}
+use Rattle.bands.proofs.Bands.{least-rule}
 use Rattle.building.proofs.Taken as Taken
 use Rattle.ways.proofs.Ways as Ways
 use Rattle.ways.proofs.fill_empty.Statement.{statement}
 use Rattle.ways.proofs.fill_empty.Tie as tie
 
+height : (c : tie.After-least-height) → let a = c .before .before .before .before .before .before .before .args in c .least-height .result ≡ least 8 3 (a .o + length (a .new .now))
+height c =
+    let s = c .before .before .before .before .before .before .before in
+    c .least-height .ensures ∙ least-rule (s .args .o + length (s .args .new .now)) (s .pre .end)
+
 low : (c : tie.After-least-height) → c .least-height .result ≤ 3
 low c =
     let a = c .before .before .before .before .before .before .before .args in
-    omega (arith, c .least-height .ensures .1, least-within 8 (omega arith) 3 (a .o + length (a .new .now)))
+    omega (arith, height c, least-within 8 (omega arith) 3 (a .o + length (a .new .now)))
 
 build-requires : tie.Need-build-requires
 build-requires c κs =
@@ -54,7 +62,7 @@ returns c =
     let p = e .before .before .before .before in
     let b = p .before .before .before .before .before in
     let h = b .before .before in
-    Ways.empty-laid (h .before .before .before .before .before .before .before .pre) (h .before .root-address .ensures) (h .least-height .ensures .1) (b .build .ensures)
+    Ways.empty-laid (h .before .before .before .before .before .before .before .pre) (h .before .root-address .ensures) (height h) (b .build .ensures)
     (p .before .word .ensures) (p .pair .ensures) (e .commit .ensures)
 
 pub fill-empty-spec : {M : Type 1} → statement M
