@@ -7,12 +7,15 @@ import re
 import subprocess
 
 ROOT = os.path.dirname(os.path.dirname(os.path.dirname(os.path.abspath(__file__))))
+HEADINGS = '| Size in bytes | Height | Bytes of the file under the root, its span | Under each of its pointers | Blocks of a full tree |\n|---|---|---|---|---|\n'
 
 
 def printed():
-    """The rows of the table: first size, last size, height, bytes under the root, bytes under each pointer (None for data), blocks."""
+    """The rows under the headings: first size, last size, height, bytes under the root, bytes under each pointer (None for data), blocks."""
     with open(os.path.join(ROOT, 'docs', 'GUIDE.md')) as source:
-        table = re.findall(r'^\| ([\d,]+) to ([\d,]+) \| (\d) \| ([\d,]+) \| ([\d,]+|the block is data) \| ([\d,]+) \|$', source.read(), re.M)
+        table = source.read().split(HEADINGS)[1].split('\n\n')[0]
+    row = r'^\| ([\d,]+) to ([\d,]+) \| (\d) \| ([\d,]+) \| ([\d,]+|the block is data) \| ([\d,]+) \|$'
+    table = re.findall(row, table, re.M)
     assert len(table) == 4, '%d rows' % len(table)
     return [[int(cell.replace(',', '')) if cell[0].isdigit() else None for cell in row] for row in table]
 

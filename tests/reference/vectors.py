@@ -29,7 +29,7 @@ WAYS_PAST = ['past empty tail'] + ['past with length, height %d' % h for h in ra
 HEAD = '''use mathlib.Core.Path.{_≡_, refl}
 use mathlib.Core.Bool.{Bool, true, false, not, _&&_}
 use mathlib.Core.List.{List, [], _∷_, _++_}
-use Prim.Native.Nat.{ℕ}
+use Prim.Native.Nat.{ℕ, _+_}
 use lib.ListN.{replicate}
 use lib.IntN.{ℤ, pos, negsuc}
 use lib.Dec.{eqb}
@@ -39,15 +39,18 @@ use Rattle.model.specs.declared.Fault.the-variants.{WordCount, Trailer, Damaged
 use Rattle.model.specs.declared.WalkEnd.{WalkEnd}
 use Rattle.model.specs.declared.WalkEnd.the-variants.{Block, Hole}
 use Rattle.model.specs.Layout.{house}
+use Rattle.model.specs.Tree.{least}
 use Rattle.model.specs.Board.{walkTo, contents}
-use Rattle.model.specs.Store.{store}
+use Rattle.model.specs.Store.{store, laid}
+use Rattle.model.specs.Plan.{pairs}
 use Rattle.model.specs.Hidden.{hidden}
-use Rattle.model.specs.Calls.{checkAnswer, freeCountAnswer, sizeAnswer, readAnswer, readBuffer, Planned, write, setLength, format, performAnswer, performBoard}
+use Rattle.model.specs.Calls.{checkAnswer, freeCountAnswer, sizeAnswer, readAnswer, readBuffer, Planned, lowest, write, setLength, format, performAnswer, performBoard}
 use Rattle.model.specs.Cabinet.{imageCheck, imageSize, imageRead, imageReadBuffer}
 use Rattle.model.specs.Lister.{listing}
 use Rattle.model.specs.Examples.{sameList, sameAnswer}
 use Rattle.model.proofs.Computing.{computes}
 use Rattle.bands.specs.Sheet.{row, sheet, lies, heightIn, sheetHeight}
+use Rattle.bands.specs.Planned.{growthBy, wayBy, writePlanBy}
 
 samePlanned : Planned → Answer → List ℕ → Bool
 samePlanned p a slice = sameAnswer (p .answer) a && sameList (p .slice) slice
@@ -65,7 +68,7 @@ sameEnd (Block m) Hole = false
 sameEnd (Block m) (Block n) = eqb m n
 
 '''
-OPEN = 'unfolding computes sameAnswer sameList samePlanned sameInt sameEnd row sheet lies heightIn sheetHeight'
+OPEN = 'unfolding computes sameAnswer sameList samePlanned sameInt sameEnd row sheet lies heightIn sheetHeight growthBy wayBy writePlanBy'
 
 
 def numbers(xs):
@@ -160,6 +163,14 @@ class Vectors:
 
     def height(self, size):
         self.add('height', [], 'eqb (sheetHeight %d) %d' % (size, B.least(size)))
+
+    def write_by(self, words, file, offset, new, tall, least):
+        """A write's plan with its height chosen by `tall`, which is `least` in board.py's place of it."""
+        before, B.least = B.least, least
+        plan = [x for pair in B.plan_write(words, file, offset, new).pairs() for x in pair]
+        B.least = before
+        self.add('write by a height', words, 'sameList (laid (replicate %d 7) 0 (pairs (writePlanBy house %s (lowest house BOARD) BOARD %d %d %s))) %s'
+                 % (len(plan), tall, file, offset, numbers(new), numbers(plan)))
 
     def image(self, image, file, offset, out):
         words = B.words_of(image)
@@ -315,10 +326,15 @@ def each_height(vectors, rnd):
 
 
 def each_band(vectors, rnd):
-    """The height by the bench sheet: at both ends of each band, and at a size between them."""
-    for first, last in [(0, 64), (65, 512), (513, 4096), (4097, 32768)]:
+    """The height by the bench sheet, at both ends of each band and at a size between them. Writes into an empty file and after growth, planned
+    with that height and with one more."""
+    for first, last, _ in B.BANDS:
         for size in (first, rnd.randrange(first + 1, last), last):
             vectors.height(size)
+    for height, size in [(0, 0), (0, 20)]:
+        words = made(rnd, 24, 9, height, size, lambda h, start: True)
+        for tall, least in [('sheetHeight', B.least), ('(λ e. least 8 3 e + 1)', lambda end, least=B.least: least(end) + 1)]:
+            vectors.write_by(words, 9, size, [rnd.randrange(256) for _ in range(100)], tall, least)
 
 
 def at_random(vectors, rnd, count):

@@ -2,9 +2,16 @@
 //! 4,096 and 4,097 to 32,768 bytes". It is looked for in each plan; and how often each end of a band was met.
 
 use crate::boards::{inode, SPAN};
+use crate::random::Random;
 
 /// The last size of each band and the first of the next. No write with a plan ends at 0.
-pub const ENDS: [u64; 7] = [64, 65, 512, 513, 4096, 4097, 32768];
+const ENDS: [u64; 7] = [64, 65, 512, 513, 4096, 4097, 32768];
+
+/// Where a write begins and how many bytes it has, few of them, so that it ends at one of these sizes.
+pub fn stretch(random: &mut Random) -> (u64, usize) {
+    let count = 1 + random.below(64);
+    (random.pick(&ENDS) - count, count as usize)
+}
 
 /// Plans of writes that end at each of these sizes.
 #[derive(Default)]

@@ -1,6 +1,6 @@
 //! Random writes and length changes: the library's plan, and before and after as plain arrays of bytes.
 
-use support::bands::ENDS;
+use support::bands;
 use support::boards::{GREATEST, SPAN};
 use support::library;
 use support::past_end;
@@ -34,13 +34,11 @@ pub fn contents(board: &[u64]) -> Vec<Vec<u8>> {
     (0..FILES).map(read).collect()
 }
 
-/// Where a write begins and how many bytes it has, small ones more often, past the end still more so; one in eight ends
+/// Where a write begins and how many bytes it has, small ones more often, past the end still more so; one in five ends
 /// where a band of sizes ends or begins.
 fn stretch(random: &mut Random, size: u64) -> (u64, usize) {
-    if random.one_in(8) {
-        let end = random.pick(&ENDS);
-        let count = 1 + random.below(64);
-        return (end - count, count as usize);
+    if random.one_in(5) {
+        return bands::stretch(random);
     }
     let offset = match random.below(7) {
         0 => size,

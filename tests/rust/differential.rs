@@ -8,6 +8,7 @@ mod calls;
 use calls::Calls;
 use std::io::Write;
 use std::process::{Command, Stdio};
+use support::bands;
 use support::boards::{block_count, damage, formatted, image_of, laid, unknown, GREATEST};
 use support::library;
 use support::past_end;
@@ -76,6 +77,15 @@ fn count(random: &mut Random, size: u64, offset: u64) -> usize {
     } else {
         random.below(70) as usize
     }
+}
+
+/// Where a write begins and how many bytes it has; one in eight ends where a band of sizes ends or begins.
+fn stretch(random: &mut Random, size: u64) -> (u64, usize) {
+    if random.one_in(8) {
+        return bands::stretch(random);
+    }
+    let offset = write_offset(random, size);
+    (offset, count(random, size, offset))
 }
 
 fn file(random: &mut Random, few: &[u64; 3]) -> u64 {
@@ -155,8 +165,7 @@ impl Test {
     fn writing(&mut self, board: &mut Vec<u64>, few: &[u64; 3]) {
         let file = file(&mut self.random, few);
         let size = self.size(board, file);
-        let offset = write_offset(&mut self.random, size);
-        let count = count(&mut self.random, size, offset);
+        let (offset, count) = stretch(&mut self.random, size);
         let bytes = self.some_bytes(count);
         let plan = self.planned(board, |calls, room| calls.write(board, file, offset, &bytes, room));
         self.ways.write(board, file, offset, offset.saturating_add(count as u64), &plan);
@@ -330,6 +339,8 @@ fn main() {
             test.round();
         }
     }
+    // What follows belongs to no round.
+    drop(std::panic::take_hook());
     bands_are_spans();
     test.calls.report();
     test.ways.report();
