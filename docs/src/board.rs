@@ -55,7 +55,7 @@ pub fn least_height(end: u64) -> u64 {
     (0..HEIGHT_LIMIT).find(|&height| end <= span(height)).unwrap_or(HEIGHT_LIMIT)
 }
 
-/// N4: "Our bench sheet prints four bands, 0 to 64, 65 to 512, 513 to 4,096 and 4,097 to 32,768 bytes." The first and
+/// N4: "our bench sheet prints four bands, 0 to 64, 65 to 512, 513 to 4,096 and 4,097 to 32,768 bytes." The first and
 /// the last size of each; a band's place in the table, from 0, is its height.
 pub const BANDS: [(u64, u64); 4] = [(0, 64), (65, 512), (513, 4_096), (4_097, 32_768)];
 
