@@ -1,7 +1,7 @@
 -- Span facts, with the words per block, W, as a parameter.
 use mathlib.Core.Path.{_≡_, refl}
 use mathlib.Core.Logic.{inl, inr}
-use mathlib.Core.List.{List}
+use mathlib.Core.List.{List, [], _∷_, map}
 use Prim.Native.Nat.{ℕ, zero, suc, _+_, _-_, _*_, _/_, _%_, _^_, _≤_, _<_}
 use native.Mathlib.Omega.{arith}
 use native.Mathlib.Nat.{pow-zero, pow-succ', mul-one, mul-left-comm, mul-pos, mul-le-mul-right, mod-lt, div-lt-iff-lt-mul, div-add-mod'}
@@ -22,6 +22,11 @@ span-power W (suc h) = rw (span-power W h, mul-left-comm W 8 (W ^ suc h), pow-su
 pub house-spans : (span 8 0 ≡ 64) × (span 8 1 ≡ 512) × (span 8 2 ≡ 4096) × (span 8 3 ≡ 32768) × (greatest house ≡ 32768)
 unfolding span greatest
 house-spans = (refl, refl, refl, refl, refl)
+
+-- and the least sufficient heights on either side of each
+pub house-heights : map (least 8 3) (0 ∷ 64 ∷ 65 ∷ 512 ∷ 513 ∷ 4096 ∷ 4097 ∷ 32768 ∷ []) ≡ 0 ∷ 0 ∷ 1 ∷ 1 ∷ 2 ∷ 2 ∷ 3 ∷ 3 ∷ []
+unfolding span least
+house-heights = refl
 
 -- where byte i of a tree of height h + 1 lies: child `which`, its byte `inside`
 pub record Child (W h i : ℕ) : Type 0 where
