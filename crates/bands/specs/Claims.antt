@@ -16,13 +16,13 @@ use Rattle.bands.specs.Planned.{writePlanBy}
 abbrev pub SheetRule : Type 0
 SheetRule = (e : ℕ) → e ≤ 32768 → (e ≤ span 8 (sheetHeight e)) × ((h : ℕ) → h < sheetHeight e → span 8 h < e)
 
--- the bands meet without gap or overlap: each of these sizes lies in one of them, and no other size does
-abbrev pub BandsRule : Type 0
-BandsRule = (e : ℕ) → length (filter (lies e) sheet) ≡ cond (leb e 32768) 1 0
-
--- it is the height that plans ask for: `least`, at the house's figures
+-- so it is the height that plans ask for, `least` at the house's figures
 abbrev pub LeastRule : Type 0
 LeastRule = (e : ℕ) → e ≤ 32768 → sheetHeight e ≡ least (house .words) (house .height) e
+
+-- the bands meet without gap or overlap: each of these sizes lies in one of them, every other in none
+abbrev pub BandsRule : Type 0
+BandsRule = (e : ℕ) → length (filter (lies e) sheet) ≡ cond (leb e 32768) 1 0
 
 -- *no plan changes*: a height function that agrees with the least sufficient height where a write ends gives that write's plan, on every kind of board
 abbrev pub SameHeightRule : Type 0

@@ -16,7 +16,12 @@ row x y h = record { first = x; last = y; height = h }
 
 -- *our bench sheet prints four bands, 0 to 64, 65 to 512, 513 to 4,096 and 4,097 to 32,768 bytes*
 unfoldable pub sheet : List Band
-sheet = row 0 64 0 ∷ row 65 512 1 ∷ row 513 4096 2 ∷ row 4097 32768 3 ∷ []
+sheet =
+    row 0 64 0
+    ∷ row 65 512 1
+    ∷ row 513 4096 2
+    ∷ row 4097 32768 3
+    ∷ []
 
 -- e bytes lie in the band
 unfoldable pub lies : ℕ → Band → Bool
