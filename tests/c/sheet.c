@@ -140,7 +140,7 @@ static void every_size(void)
     }
 }
 
-/* All bytes up to the size by one write; then one byte, and the others after it, so that the tree grows. */
+/* All bytes up to the size by one write; then one byte, and the others after it, so that past 64 bytes the tree grows. */
 static void both_ways(uint64_t size, const struct band *band)
 {
     about("a file of %" PRIu64 " bytes", size);
