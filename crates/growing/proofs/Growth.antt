@@ -5,7 +5,7 @@ use mathlib.Core.List.{List, [], _∷_}
 use Prim.Native.Nat.{ℕ, zero, suc, _+_, _-_, _*_, _/_, _%_, _^_, _≤_, _<_}
 use native.Mathlib.Omega.{arith}
 use native.Mathlib.Nat.{zero-add}
-use native.Mathlib.Numerals.{add-one}
+use native.Mathlib.Numerals.{sub-one}
 use lib.ListN.{length, getD}
 use Rattle.model.specs.Lists.{tabulate}
 use Rattle.model.specs.Layout.{house}
@@ -31,38 +31,27 @@ unfolding levels
 levels-some fresh zero d f = absurd (f refl)
 levels-some fresh (suc k) d f = refl
 
--- i levels are laid over block k, and `below` is the block under the next
-pub record Levelled (free plan : List ℕ) (k : ℕ) (plan′ : List ℕ) (below i : ℕ) : Type 0 where
-  pub is : below ≡ levelBelow (taking free) k i
-  pub small : below < 2 ^ 61
-  pub pages : Took free plan 0 0 (tabulate i (levelAt (taking free) k)) plan′ i
-
 module _ {free plan : List ℕ} {k : ℕ} where
-  pub none : k < 2 ^ 61 → Levelled free plan k plan k 0
-  unfolding levelBelow tabulate
-  none l = record { is = refl; small = l; pages = Taken.none }
-
-  -- one more: *its first pointer the old tree and the rest 0*
-  pub more : {plan₁ plan₂ : List ℕ} {below i c v : ℕ} → Blocks free → Levelled free plan k plan₁ below i
-      → Took free plan₁ 0 i ((λ j. getD (8 * below ∷ 0 ∷ 0 ∷ 0 ∷ 0 ∷ 0 ∷ 0 ∷ 0 ∷ []) j 0) ∷ []) plan₂ c → v ≡ getD free i 0 → Levelled free plan k plan₂ v (i + 1)
-  unfolding levelPage levelBelow tabulate taking
-  more {plan₁} {plan₂} {below} {i} {c} {v} b l t e = record {
-    is = rw (add-one i) e;
-    small = omega (arith, b .small i);
-    pages =
-        let words : 8 * below ∷ 0 ∷ 0 ∷ 0 ∷ 0 ∷ 0 ∷ 0 ∷ 0 ∷ [] ≡ tabulate 8 (levelAt (taking free) k i) = rw (l .is) in
-        let next : c ≡ suc i = omega (arith, t .next) in
-        rw (add-one i, ← next) (Taken.more (l .pages) (Taken.as-words {p = levelAt (taking free) k i} words t));
-  }
-
-  -- all d
-  pub all : {plan′ : List ℕ} {below i d : ℕ} → k ≢ 0 → i ≡ d → Levelled free plan k plan′ below i → Took free plan 0 0 (levels 8 (taking free) k d) plan′ d
-  all {plan′} {below} {i} {d} f e l = rw (levels-some (taking free) k d f, ← e) (l .pages)
-
   -- a null root has none
   pub null : (d : ℕ) → k ≡ 0 → Took free plan 0 0 (levels 8 (taking free) k d) plan 0
   unfolding levels
   null d e = rw e Taken.none
+
+  pub no-levels : (d : ℕ) → k ≢ 0 → d ≡ 0 → Took free plan 0 0 (levels 8 (taking free) k d) plan 0
+  unfolding tabulate
+  no-levels d f e = rw (levels-some (taking free) k d f, e) Taken.none
+
+  -- the last level, over d - 1: *its first pointer the old tree and the rest 0*
+  pub last-level : {plan₁ plan₂ : List ℕ} (d : ℕ) {t below c : ℕ} → k ≢ 0 → d ≢ 0 → Took free plan 0 0 (levels 8 (taking free) k (d - 1)) plan₁ t
+      → below ≡ levelBelow (taking free) k t → Took free plan₁ 0 t ((λ j. getD (8 * below ∷ 0 ∷ 0 ∷ 0 ∷ 0 ∷ 0 ∷ 0 ∷ 0 ∷ []) j 0) ∷ []) plan₂ c
+      → Took free plan 0 0 (levels 8 (taking free) k d) plan₂ c
+  unfolding levelPage tabulate
+  last-level zero f g l eb u = absurd (g refl)
+  last-level {plan₁} (suc d) {t} {below} f g l eb u =
+      let l′ : Took free plan 0 0 (tabulate d (levelAt (taking free) k)) plan₁ t = rw (sub-one, levels-some (taking free) k d f) at l in
+      let et : t ≡ d = omega (arith, l′ .next, length-tabulate d (levelAt (taking free) k)) in
+      let words : 8 * below ∷ 0 ∷ 0 ∷ 0 ∷ 0 ∷ 0 ∷ 0 ∷ 0 ∷ [] ≡ tabulate 8 (levelAt (taking free) k d) = rw (eb, et) in
+      rw (levels-some (taking free) k (suc d) f) (Taken.more l′ (Taken.as-words {p = levelAt (taking free) k d} words u))
 
 -- at most one for each of d levels
 pub levels-most : (fresh : ℕ → ℕ) (k d : ℕ) → length (levels 8 fresh k d) ≤ d
@@ -75,31 +64,19 @@ few-levels {free} k d t = omega (arith, t .next, levels-most (taking free) k d)
 
 -- ---- The block at the top
 
+pub below-small : {free : List ℕ} {k v : ℕ} (t : ℕ) → Blocks free → k < 2 ^ 61 → v ≡ levelBelow (taking free) k t → v < 2 ^ 61
+unfolding levelBelow
+below-small zero b l e = rw e l
+below-small (suc t) b l e = rw e (b .small t)
+
 -- it stands over d levels, and these over block k
-pub record Top (free : List ℕ) (k d top : ℕ) : Type 0 where
-  pub is : top ≡ levelTop (taking free) k d
-  pub small : top < 2 ^ 61
-
--- where no block was taken, it is the old tree's
-pub top-old : {free plan plan′ : List ℕ} {k d t : ℕ} → Took free plan 0 0 (levels 8 (taking free) k d) plan′ t → t ≡ 0 → k < 2 ^ 61 → Top free k d k
+pub top-is : {free plan plan′ : List ℕ} {t v : ℕ} (k d : ℕ) → Took free plan 0 0 (levels 8 (taking free) k d) plan′ t → v ≡ levelBelow (taking free) k t
+    → v ≡ levelTop (taking free) k d
 unfolding levels levelTop levelBelow
-top-old {free} {k} {d} {t} l z small = record { is = by k d (l .next); small = small }
-  where
-    by : (k d : ℕ) → t ≡ 0 + length (levels 8 (taking free) k d) → k ≡ levelTop (taking free) k d
-    by zero d e = refl
-    by (suc k) zero e = refl
-    by (suc k) (suc d) e = absurd (omega (arith, length-tabulate (suc d) (levelAt (taking free) (suc k))))
-
--- else the last
-pub top-last : {free plan plan′ : List ℕ} {k d t v : ℕ} → Blocks free → Took free plan 0 0 (levels 8 (taking free) k d) plan′ t → t ≢ 0
-    → v ≡ getD free (t - 1) 0 → Top free k d v
-unfolding taking levels levelTop levelBelow
-top-last {free} {k} {d} {t} {v} b l f e = record { is = e ∙ by k d (l .next); small = omega (arith, b .small (t - 1)) }
-  where
-    by : (k d : ℕ) → t ≡ 0 + length (levels 8 (taking free) k d) → getD free (t - 1) 0 ≡ levelTop (taking free) k d
-    by zero d e = absurd (f e)
-    by (suc k) zero e = absurd (f (omega (arith, length-tabulate 0 (levelAt (taking free) (suc k)))))
-    by (suc k) (suc d) e = ap (λ (i : ℕ). getD free i 0) (omega (arith, length-tabulate (suc d) (levelAt (taking free) (suc k))))
+top-is {free} {t = t} zero d l e = let z : t ≡ 0 = l .next in e ∙ rw z
+top-is {free} {t = t} (suc k) d l e =
+    let et : t ≡ d = omega (arith, l .next, length-tabulate d (levelAt (taking free) (suc k))) in
+    e ∙ ap (levelBelow (taking free) (suc k)) et
 
 -- ---- The plan
 
@@ -110,10 +87,10 @@ root-word {b} at e = e ∙ ap (λ (x : ℕ). getD b x 0) (at .is)
 
 -- the levels were laid, then the commit of the root word
 pub growth-laid : {b free slice slice₁ slice₂ : List ℕ} {f a w t top p : ℕ} (h : ℕ) → AddressOf b f a → w ≡ getD b a 0
-    → Took free slice 0 0 (levels 8 (taking free) (w / 8) (h - w % 8)) slice₁ t → Top free (w / 8) (h - w % 8) top
+    → Took free slice 0 0 (levels 8 (taking free) (w / 8) (h - w % 8)) slice₁ t → top ≡ levelBelow (taking free) (w / 8) t
     → Laid slice₁ (8 * t) (closing (8 * t - 0) (store a (8 * top + h))) slice₂ p
     → PlanLaid slice 0 (growthTo house (taking free) b f h) slice₂ (record { pairs = p; taken = t })
 unfolding growthTo
 growth-laid {b} {free} {slice} {slice₁} {slice₂} {f} {a} {w} {t} {top} {p} h at ew l u commit =
     let all : length (levels 8 (taking free) (w / 8) (h - w % 8)) ≡ t = omega (arith, l .next) in
-    rw (← (root-word at ew), ← (at .is), ← (u .is), all) (one-step a (8 * top + h) t (rw (zero-add (8 * t)) at (Taken.laid-pages l)) commit refl)
+    rw (← (root-word at ew), ← (at .is), ← (top-is (w / 8) (h - w % 8) l u), all) (one-step a (8 * top + h) t (rw (zero-add (8 * t)) at (Taken.laid-pages l)) commit refl)

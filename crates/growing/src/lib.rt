@@ -6,10 +6,11 @@ use building::take;
 use plans::commit;
 use plans::pair;
 use words::word;
+ghost use mathlib.Core.Path.{_≡_};
 ghost use Prim.Native.Nat.{_%_, _^_, _≤_, _<_};
 ghost use Rattle.model.specs.Layout.{house};
 ghost use Rattle.model.specs.Board.{root};
-ghost use Rattle.model.specs.Change.{levels, growthTo, singleWord};
+ghost use Rattle.model.specs.Change.{levelBelow, levels, growthTo, singleWord};
 ghost use Rattle.building.specs.Taking.{taking, Blocks, Took};
 ghost use Rattle.growing.specs.Planned.{PlanLaid, AddressOf};
 
@@ -26,6 +27,13 @@ pub fn root_address(board: &[u64], file: u64) -> u64
     8 * (inode_pointer(board, file / 4) / 8) + 2 * (file % 4)
 }
 
+// The block at the top of a tree at block k with t levels over it.
+fn top(free: &[u64], k: u64, t: u64) -> u64
+    ensures { λ r. ⌜ r ≡ levelBelow (taking (now (free .entry))) k t ⌝ }
+{
+    if t == 0 { k } else { word(free, t - 1) }
+}
+
 // Lays the fresh blocks of growth over block k, one for each of d levels. Answers how many are taken.
 fn levels(free: &[u64], plan: &mut [u64], k: u64, d: u64) -> u64
     requires { ⌜ Blocks (now free) × (k < 2 ^ 61) × (d ≤ 8) ⌝ }
@@ -34,14 +42,11 @@ fn levels(free: &[u64], plan: &mut [u64], k: u64, d: u64) -> u64
     if k == 0 {
         return 0;
     }
-    let mut below = k;
-    let mut i = 0;
-    while i < d {
-        take(free, plan, 0, [8 * below, 0, 0, 0, 0, 0, 0, 0], i);
-        below = word(free, i);
-        i += 1;
+    if d == 0 {
+        return 0;
     }
-    d
+    let t = levels(free, plan, k, d - 1);
+    take(free, plan, 0, [8 * top(free, k, t), 0, 0, 0, 0, 0, 0, 0], t)
 }
 
 // Growth of a file's tree to height h.
@@ -53,8 +58,7 @@ pub fn grow(board: &[u64], free: &[u64], plan: &mut [u64], file: u64, h: u64) ->
     let root = word(board, at);
     let k = root / 8;
     let taken = levels(free, plan, k, h - root % 8);
-    let top = if taken == 0 { k } else { word(free, taken - 1) };
-    let pairs = commit(plan, 0, 8 * taken, at, 8 * top + h);
+    let pairs = commit(plan, 0, 8 * taken, at, 8 * top(free, k, taken) + h);
     Count {
         pairs: pairs,
         taken: taken,

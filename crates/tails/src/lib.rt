@@ -24,25 +24,25 @@ pub fn walk_live(board: &[u64], grown: &[u64], h: u64, k: u64, n: u64) -> WalkEn
     requires { ⌜ h < 8 ⌝ }
     ensures { λ r. ⌜ r ≡ walkLive 8 (onto (now (board .entry)) (now (grown .entry))) h k n ⌝ }
 {
-    let mut height = h;
-    let mut block = k;
-    let mut left = n;
-    while height != 0 {
-        let s = span(height - 1);
-        if left % s == 0 {
-            break;
+    if h != 0 {
+        let s = span(h - 1);
+        if n % s != 0 {
+            return walk_live(
+                board,
+                grown,
+                h - 1,
+                link_on(board, grown, k, n / s) / 8,
+                n % s,
+            );
         }
-        block = link_on(board, grown, block, left / s) / 8;
-        left = left % s;
-        height -= 1;
     }
-    if block == 0 {
+    if k == 0 {
         return WalkEnd::Hole;
     }
-    if left == 0 {
+    if n == 0 {
         return WalkEnd::Hole;
     }
-    WalkEnd::Block(block)
+    WalkEnd::Block(k)
 }
 
 // Lays the words of data block k that hold bytes of `new`, from place p on. Answers the next place.

@@ -8,7 +8,7 @@ ghost use mathlib.Core.Path.{_≡_};
 ghost use mathlib.Core.List.{[], _∷_};
 ghost use Prim.Native.Nat.{_<_};
 ghost use lib.Dec.{ltb};
-ghost use Rattle.model.specs.Tree.{walk};
+ghost use Rattle.model.specs.Tree.{ending, walk};
 ghost use Rattle.model.specs.Board.{rootWalk};
 ghost use Rattle.trees.specs.Trees.{Spanned, Crawled, Counted};
 ghost use Rattle.trees.specs.Marks.{Marked};
@@ -21,34 +21,37 @@ pub fn span(h: u64) -> u64
     64 << (3 * h)
 }
 
-// The walk to byte i of a tree: a pointer is followed at each turn. A loop, since a read walks to each block.
+// The block where the walk to byte i of a tree ends, 0 in a hole: a pointer is followed at each call. A read walks to each block, so this is written
+// for the call to be compiled to a jump: it answers a number, and lends a reference to the slice, where a slice is laid in memory anew for each call.
+fn reached(board: &&[u64], h: u64, k: u64, n: u64, i: u64) -> u64
+    requires { ⌜ h < 8 ⌝ }
+    ensures { λ r. ⌜ ending r 1 ≡ walk 8 (now (now (board .entry))) h k n i ⌝ }
+{
+    if n == 0 {
+        return 0;
+    }
+    if k == 0 {
+        return 0;
+    }
+    if h == 0 {
+        return k;
+    }
+    let s = span(h - 1);
+    let j = i / s;
+    let first = j * s;
+    if n <= first {
+        return 0;
+    }
+    reached(board, h - 1, cell(*board, k, j) / 8, n - first, i - first)
+}
+
+// The walk to byte i of a tree.
 pub fn walk(board: &[u64], h: u64, k: u64, n: u64, i: u64) -> WalkEnd
     requires { ⌜ h < 8 ⌝ }
     ensures { λ r. ⌜ r ≡ walk 8 (now (board .entry)) h k n i ⌝ }
 {
-    let mut height = h;
-    let mut block = k;
-    let mut left = n;
-    let mut at = i;
-    while height != 0 {
-        let s = span(height - 1);
-        let j = at / s;
-        let first = j * s;
-        if block == 0 {
-            return WalkEnd::Hole;
-        }
-        if left <= first {
-            return WalkEnd::Hole;
-        }
-        block = cell(board, block, j) / 8;
-        left -= first;
-        at -= first;
-        height -= 1;
-    }
+    let block = reached(&board, h, k, n, i);
     if block == 0 {
-        return WalkEnd::Hole;
-    }
-    if left == 0 {
         return WalkEnd::Hole;
     }
     WalkEnd::Block(block)

@@ -126,32 +126,36 @@ fn descend(board: &[u64], grown: &[u64], h: u64, k: u64, n: u64, o: u64, new: &[
     requires { ⌜ (h < 8) × (k < 2 ^ 61) × (o < span 8 h) × (length (now new) ≤ 32768) ⌝ }
     ensures { λ r. ⌜ Descended (onto (now (board .entry)) (now (grown .entry))) h k n o (now (new .entry)) a r ⌝ }
 {
-    let mut spot = Spot {
+    let spot = Spot {
         height: h,
         block: k,
         left: n,
         offset: o,
         at: a,
     };
-    while spot.height != 0 {
-        let s = span(spot.height - 1);
-        let rest = spot.offset % s;
-        if spot.block == 0 {
-            return spot;
-        }
-        if s < rest + new.len() as u64 {
-            return spot;
-        }
-        let j = spot.offset / s;
-        spot = Spot {
-            height: spot.height - 1,
-            block: cell_on(board, grown, spot.block, j) / 8,
-            left: minus(spot.left, j * s),
-            offset: rest,
-            at: 8 * spot.block + j,
-        };
+    if h == 0 {
+        return spot;
     }
-    spot
+    if k == 0 {
+        return spot;
+    }
+    let s = span(h - 1);
+    let rest = o % s;
+    if s < rest + new.len() as u64 {
+        return spot;
+    }
+    let j = o / s;
+    let p = cell_on(board, grown, k, j);
+    descend(
+        board,
+        grown,
+        h - 1,
+        p / 8,
+        minus(n, j * s),
+        rest,
+        new,
+        8 * k + j,
+    )
 }
 
 // A write within the size, committed at one pointer.
