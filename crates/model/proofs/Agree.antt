@@ -295,6 +295,12 @@ module _ (W : ℕ) (pos : 0 < W) where
   occ-leaf b (suc k) zero q = omega arith
   occ-leaf b (suc k) (suc n) q = omega arith
 
+  pub occ-data : (b : List ℕ) (k n q : ℕ) → 0 < k → 0 < n → occ q (blocks W b zero k n) ≡ one q k
+  unfolding blocks occ
+  occ-data b zero n q p r = absurd (omega arith)
+  occ-data b (suc k) zero q p r = absurd (omega arith)
+  occ-data b (suc k) (suc n) q p r = omega arith
+
   pub occ-above : (b : List ℕ) (h k n q : ℕ) → occ q (blocks W b (suc h) k n) ≤ one q k + beneath b h k n q
   unfolding blocks occ beneath link
   occ-above b h zero n q = omega arith

@@ -1,7 +1,7 @@
 -- A fresh tree: what its pages read as once a board holds them.
 use mathlib.Core.Path.{_≡_, refl, sym, ap, _∙_, subst}
 use mathlib.Core.Logic.{inl, inr}
-use mathlib.Core.Bool.{Bool, true, false}
+use mathlib.Core.Bool.{Bool, true, false, false≢true}
 use mathlib.Core.List.{List, [], _∷_, _++_}
 use Prim.Native.Nat.{ℕ, zero, suc, _+_, _-_, _*_, _/_, _%_, _≤_, _<_}
 use native.Mathlib.Omega.{arith}
@@ -11,15 +11,17 @@ use Rattle.model.specs.Lists.{joined, sum}
 use Rattle.model.specs.Words.{byteOf}
 use Rattle.model.specs.Tree.{seen, span, cell, link}
 use Rattle.model.specs.Fresh.{Page, splice, part, partLength, touched, freshNeed, freshBefore, need, dataPage, pointerPage, build}
+use Rattle.model.specs.GivenUp.{pathBlocks}
 use Rattle.model.specs.Claims.{FreshBlockRule}
 use Rattle.model.proofs.Cases.{split, decide, either, length-joined}
 use Rattle.model.proofs.Sums.{sum-cong, sum-split}
-use Rattle.model.proofs.Counting.{one}
+use Rattle.model.proofs.Counting.{one, occ}
 use Rattle.model.proofs.Bytes.{byteOf-lt, byteOf-wordOf}
-use Rattle.model.proofs.Agree.{byteAt, agree, agree-none, seen-live, seen-dead, seen-lt, link-cell, agree-child, occ-leaf, occ-beneath, sound-leaf, aligned-zero, aligned-full}
-use Rattle.model.proofs.Splice.{Small, Reach, length-part, small-part, reach-child, splice-small, splice-skip, choose-zero, choose-pos, bytes-small}
+use Rattle.model.proofs.Agree.{byteAt, agree, agree-none, seen-live, seen-dead, seen-lt, link-cell, agree-child, occ-data, sound-leaf, aligned-zero, aligned-full}
+use Rattle.model.proofs.Splice.{Small, Reach, length-part, small-part, reach-child, part-fits, splice-small, splice-skip, choose-zero, choose-pos, bytes-small}
 use Rattle.model.proofs.Paths.{touched-new, untouched-dead, kidNeed, fresh-none, fresh-data, fresh-node, fresh-pos, before-suc, before-le, fresh-quiet}
-use Rattle.model.proofs.Changed.{Changed, weaken, passed, node}
+use Rattle.model.proofs.GivenUp.{pathUnder, path-none, path-data, path-node, path-null}
+use Rattle.model.proofs.Changed.{Changed, recount, passed, node}
 
 -- the board b holds pages from the fresh block number c on
 unfoldable pub held : ℕ → (ℕ → ℕ) → List ℕ → List Page → ℕ → Type 0
@@ -38,6 +40,16 @@ module _ (fresh : ℕ → ℕ) where
   pub used-one : (q c : ℕ) → used q c 1 ≡ one q (fresh c)
   unfolding used sum
   used-one q c = zero-add _ ∙ ap (λ (x : ℕ). one q (fresh x)) (add-zero c)
+
+  none-used : (q c m : ℕ) → m ≡ 0 → used q c m ≡ 0
+  unfolding used sum
+  none-used q c zero e = refl
+  none-used q c (suc m) e = absurd (omega arith)
+
+-- a tree with no written byte whose block is made fresh is live
+last-live : (W h k n o l : ℕ) → l ≡ 0 → touched W h k n o l ≡ true → 0 < n
+last-live W h k zero o l none hit = absurd (false≢true (sym (untouched-dead W h k 0 o l none refl) ∙ hit))
+last-live W h k (suc n) o l none hit = omega arith
 
 -- the block of a pointer that is 0 where it isn't live
 seen-block : (W n w : ℕ) → seen n w / W ≡ seen n (w / W)
@@ -189,29 +201,31 @@ module _ (W : ℕ) (pos : 0 < W) (b : List ℕ) (fresh : ℕ → ℕ) where
 
       pub build-changed : (top : ℕ) → ((i : ℕ) → i < lim → fresh i < top) → (h k n o : ℕ) (new : List ℕ) (c m : ℕ) → touched W h k n o (length new) ≡ true
           → c + freshNeed W b h k n o (length new) ≤ lim → Small new
-          → held W fresh b′ (build W fresh b h k n o new c) c → agree W b b′ h k n → n ≤ m → Reach n m o (length new) (span W h)
+          → held W fresh b′ (build W fresh b h k n o new c) c → agree W b b′ h k n → n ≤ m → 0 < m → (0 < length new → o + length new ≤ m) → Reach n m o (length new) (span W h)
           → Changed W b b′ top h k (fresh (c + freshNeed W b h k n o (length new) - 1)) n m o new (λ q. used fresh q c (freshNeed W b h k n o (length new)))
-      build-changed top below zero k n o new c m p r small g a le reach =
+          (λ q. occ q (pathBlocks W b h k n o (length new)))
+      build-changed top below zero k n o new c m p r small g a le live end reach =
           let e : c + 1 - 1 ≡ c = omega arith in
           let one-block : freshNeed W b zero k n o (length new) ≡ 1 = fresh-data W b k n o (length new) p in
           rw one-block (rw e (record {
             bytes = data-byte k n o new c m p (omega arith) small g;
-            counts = λ q. omega (arith, occ-leaf W pos b′ (fresh c) m q, used-one fresh q c);
+            counts = λ q. omega (arith, occ-data W pos b′ (fresh c) m q (nonzero c (omega arith)) live, used-one fresh q c, path-data W pos b k n o (length new) q p);
             fine = λ s. sound-leaf W pos top b′ (fresh c) m (below c (omega arith));
           }))
-      build-changed top below (suc h) k n o new c m p r small g a le reach =
+      build-changed top below (suc h) k n o new c m p r small g a le live end reach =
           let s = span W h in
           let l = length new in
           let root = c + freshNeed W b (suc h) k n o l - 1 in
           let root-lt : root < lim = omega (arith, fresh-pos W b (suc h) k n o l p) in
           let count : freshNeed W b (suc h) k n o l ≡ freshBefore W b h k n o l W + 1 = omega (arith, fresh-node W b h k n o l p) in
           let test : ℕ → Bool = λ j. touched W h (link W b k j / W) (n - j * s) (o - j * s) (partLength s j o l) in
-          node W pos b b′ top h k (fresh root) n m o new _ (λ j q. used fresh q (c + freshBefore W b h k n o l j) (kidNeed W b h k n o l j))
+          node W pos b b′ top h k (fresh root) n m o new _ _ (λ j q. used fresh q (c + freshBefore W b h k n o l j) (kidNeed W b h k n o l j))
+          (λ j q. occ q (pathUnder W pos b h k n o l j)) (nonzero root root-lt) live
           (λ s. below root root-lt)
           (λ j j-lt t. elim (either (test j)) [
             | inr none ↦ rw (top-old h k n o new c p r g j j-lt none) (elim (split (n - j * s) 0) [
               | inl dead ↦ rw (seen-dead (n - j * s) (link W b k j) (omega arith)) (aligned-zero W pos (m - j * s) 0 (zero-mod W))
-              | inr live ↦ rw (seen-live (n - j * s) (link W b k j) live) (rw (aligned-full W pos (n - j * s) (m - j * s) (link W b k j) live (omega arith)) at t)
+              | inr alive ↦ rw (seen-live (n - j * s) (link W b k j) alive) (rw (aligned-full W pos (n - j * s) (m - j * s) (link W b k j) alive (omega arith)) at t)
             ])
             | inl some ↦ rw (top-new h k n o new c p r g j j-lt some) (aligned-zero W pos (m - j * s) _ (mul-mod-right W _))
           ])
@@ -219,25 +233,37 @@ module _ (W : ℕ) (pos : 0 < W) (b : List ℕ) (fresh : ℕ → ℕ) where
           let total : used fresh q c (freshNeed W b (suc h) k n o l) ≡ used fresh q c (freshBefore W b h k n o l W) + one q (fresh root) =
           ap (used fresh q c) count ∙ used-add fresh q c (freshBefore W b h k n o l W) 1
           ∙ ap (λ (x : ℕ). used fresh q c (freshBefore W b h k n o l W) + x) (used-one fresh q (c + freshBefore W b h k n o l W) ∙ ap (λ (x : ℕ). one q (fresh x)) (omega arith)) in
-          omega (arith, total, occ-beneath W pos b h k n q, used-before h k n o l q c W))
+          omega (arith, total, path-node W pos b h k n o l q p, used-before h k n o l q c W))
           (λ j j-lt. elim (either (test j)) [
-            | inr none ↦ weaken W pos b b′ top h _ _ _ _ _ _ (λ q. 0) _ (λ q. omega arith)
+            | inr none ↦ recount W pos b b′ top h _ _ _ _ _ _ (λ q. 0) (λ q. 0) _ _ (λ q. omega (
+              arith,
+              none-used fresh q (c + freshBefore W b h k n o l j) (kidNeed W b h k n o l j) (fresh-none W b h _ _ _ _ none),
+              path-none W pos b h (link W b k j / W) (n - j * s) (o - j * s) (partLength s j o l) q none,
+            ))
                 (passed W pos b b′ top h (link W b k j / W) (link W b′ (fresh root) j / W) (n - j * s) (m - j * s) (o - j * s) (part s j o new)
                 (rw (length-part s j o new) none) (omega arith) (reach-child W h o new n m reach j j-lt) (agree-child W pos b b′ h k n a j j-lt)
                 (ap (λ (x : ℕ). x / W) (top-old h k n o new c p r g j j-lt none) ∙ seen-block W (n - j * s) (link W b k j)))
-            | inl some ↦ rw (top-new h k n o new c p r g j j-lt some) (rw (mul-div-cancel-left _ pos) (rw (← (length-part s j o new))
-                (build-changed top below h (link W b k j / W) (n - j * s) (o - j * s) (part s j o new) (c + freshBefore W b h k n o l j) (m - j * s) (rw (length-part s j o new) some)
-                (room h k n o new c lim p r j j-lt) (small-part s j o new small) (held-child h k n o new c p g j j-lt) (agree-child W pos b b′ h k n a j j-lt) (omega arith) (reach-child W h o new n m reach j j-lt))))
+            | inl some ↦
+                let len : length (part s j o new) ≡ partLength s j o l = length-part s j o new in
+                let alive : 0 < m - j * s = elim (split (partLength s j o l) 0) [
+                  | inl bare ↦ omega (arith, last-live W h (link W b k j / W) (n - j * s) (o - j * s) (partLength s j o l) (omega arith) some)
+                  | inr part ↦ omega (arith, part-fits s j o l m part end)
+                ] in
+                rw (top-new h k n o new c p r g j j-lt some) (rw (mul-div-cancel-left _ pos) (rw (← len)
+                (build-changed top below h (link W b k j / W) (n - j * s) (o - j * s) (part s j o new) (c + freshBefore W b h k n o l j) (m - j * s) (rw len some)
+                (room h k n o new c lim p r j j-lt) (small-part s j o new small) (held-child h k n o new c p g j j-lt) (agree-child W pos b b′ h k n a j j-lt) (omega arith) alive
+                (rw len (λ u. part-fits s j o l m u end)) (reach-child W h o new n m reach j j-lt))))
           ])
 
-      -- where no block exists
+      -- where no block exists, and none is given up
       pub build-null-changed : (top : ℕ) → ((i : ℕ) → i < lim → fresh i < top) → (h o : ℕ) (new : List ℕ) (c m : ℕ) → 0 < length new → c + need W h o (length new) ≤ lim → Small new
-          → held W fresh b′ (build W fresh b h 0 0 o new c) c → Reach 0 m o (length new) (span W h)
-          → Changed W b b′ top h 0 (fresh (c + need W h o (length new) - 1)) 0 m o new (λ q. used fresh q c (need W h o (length new)))
-      build-null-changed top below h o new c m some r small g reach =
+          → held W fresh b′ (build W fresh b h 0 0 o new c) c → o + length new ≤ m → Reach 0 m o (length new) (span W h)
+          → Changed W b b′ top h 0 (fresh (c + need W h o (length new) - 1)) 0 m o new (λ q. used fresh q c (need W h o (length new))) (λ q. 0)
+      build-null-changed top below h o new c m some r small g end reach =
           let count : freshNeed W b h 0 0 o (length new) ≡ need W h o (length new) = fresh-quiet W b h 0 0 o (length new) (inl refl) in
-          subst (λ (x : ℕ). Changed W b b′ top h 0 (fresh (c + x - 1)) 0 m o new (λ q. used fresh q c x)) count
-          (build-changed top below h 0 0 o new c m (touched-new W h 0 0 o (length new) some) (rw count r) small g (agree-none W pos b b′ h 0 0 refl) (omega arith) reach)
+          recount W pos b b′ top h _ _ _ _ _ _ _ _ _ _ (λ q. omega (arith, path-null W pos b h 0 o (length new) q))
+          (subst (λ (x : ℕ). Changed W b b′ top h 0 (fresh (c + x - 1)) 0 m o new (λ q. used fresh q c x) (λ q. occ q (pathBlocks W b h 0 0 o (length new)))) count
+          (build-changed top below h 0 0 o new c m (touched-new W h 0 0 o (length new) some) (rw count r) small g (agree-none W pos b b′ h 0 0 refl) (omega arith) (omega arith) (λ u. end) reach))
 
 -- ---- Where nothing is visible and nothing written
 

@@ -13,50 +13,53 @@ use Rattle.model.specs.Tree.{seen, span, blocks, sound}
 use Rattle.model.specs.Board.{rootBlocks, rootSound, greatest, blockCount, inodeBlock, leaf, root, size, contents, fileBlocks, liveBlocks, trailerSound, leafSound, fileSound, accepted}
 use Rattle.model.specs.Fresh.{splice}
 use Rattle.model.proofs.Cases.{split, decide, and-both, tabulate-cong}
-use Rattle.model.proofs.Sums.{sum-le, sum-add, only, only-same, sum-only}
+use Rattle.model.proofs.Sums.{sum-cong, sum-add, only, only-same, only-other, sum-only, sum-only-at}
 use Rattle.model.proofs.Counting.{one, occ}
 use Rattle.model.proofs.Agree.{byteAt, agree, agree-none, agree-trans, seen-live, seen-dead, blocks-none, byteAt-past}
 use Rattle.model.proofs.Changed.{Changed}
 use Rattle.model.proofs.Grown.{Grown}
-use Rattle.model.proofs.Shown.{Same, rootByte, root-byte-in, root-byte-past, contents-bytes, root-blocks, root-byte, root-sound, words-pos, occ-live, count-kept, words-kept}
+use Rattle.model.proofs.Shown.{Same, rootByte, root-byte-in, root-byte-past, contents-bytes, root-blocks, root-byte, root-sound, words-pos, occ-live, leaf-of, count-kept, words-kept}
 use Rattle.model.proofs.Accepting.{accepted-parts, parts-accepted, file-parts, root-sound-parts}
 
--- file f is sound on b₂, reads `wanted`, and has its blocks of b and at most the extra ones
-pub record FileCommit (g : Layout) (b b₂ : List ℕ) (f : ℕ) (wanted : List ℕ) (extra : ℕ → ℕ) : Type 0 where
+-- file f is sound on b₂, reads `wanted`, and has its blocks of b and the extra ones, less those that are gone
+pub record FileCommit (g : Layout) (b b₂ : List ℕ) (f : ℕ) (wanted : List ℕ) (extra gone : ℕ → ℕ) : Type 0 where
   pub sound : T (fileSound g b₂ f)
   pub reads : contents g b₂ f ≡ wanted
-  pub counts : (q : ℕ) → occ q (fileBlocks g b₂ f) ≤ occ q (fileBlocks g b f) + extra q
+  pub counts : (q : ℕ) → occ q (fileBlocks g b₂ f) + gone q ≡ occ q (fileBlocks g b f) + extra q
 
--- block k₂ stands where k stood, or is an extra one
-abbrev pub Moved : ℕ → ℕ → (ℕ → ℕ) → Type 0
-Moved k k₂ extra = (q : ℕ) → one q k₂ ≤ one q k + extra q
+-- block k₂ stands where k stood, or is an extra one, and then k is gone
+abbrev pub Moved : ℕ → ℕ → (ℕ → ℕ) → (ℕ → ℕ) → Type 0
+Moved k k₂ extra gone = (q : ℕ) → one q k₂ + gone q ≡ one q k + extra q
 
 -- b became b₂: what each file reads, and the extra blocks of the inode pointer block, of each leaf and of each file, none of them live on b, and none twice
-pub record Commit (g : Layout) (b b₂ : List ℕ) (wanted : ℕ → List ℕ) (above : ℕ → ℕ) (beside within : ℕ → ℕ → ℕ) : Type 0 where
+pub record Commit (g : Layout) (b b₂ : List ℕ) (wanted : ℕ → List ℕ) (above lessAbove : ℕ → ℕ) (beside lessBeside within lessWithin : ℕ → ℕ → ℕ) : Type 0 where
   pub lengths : length b ≡ length b₂
   pub trailers : T (trailerSound g b₂)
-  pub inode : Moved (inodeBlock g b) (inodeBlock g b₂) above
+  pub inode : Moved (inodeBlock g b) (inodeBlock g b₂) above lessAbove
   pub leaves : (l : ℕ) → l < g .leaves → T (leafSound g b₂ l)
-  pub leaves-moved : (l : ℕ) → l < g .leaves → Moved (leaf g b l) (leaf g b₂ l) (beside l)
-  pub all-files : (f : ℕ) → f < files g → FileCommit g b b₂ f (wanted f) (within f)
+  pub leaves-moved : (l : ℕ) → l < g .leaves → Moved (leaf g b l) (leaf g b₂ l) (beside l) (lessBeside l)
+  pub all-files : (f : ℕ) → f < files g → FileCommit g b b₂ f (wanted f) (within f) (lessWithin f)
   pub spare : (q : ℕ) → occ q (liveBlocks g b) + above q + sum (g .leaves) (λ l. beside l q) + sum (files g) (λ f. within f q) ≤ 1
 
 module _ (g : Layout) (b b₂ : List ℕ) where
-  -- the live blocks are those of b and at most the extra ones
-  pub commit-counts : {wanted : ℕ → List ℕ} {above : ℕ → ℕ} {beside within : ℕ → ℕ → ℕ} → Commit g b b₂ wanted above beside within
-      → (q : ℕ) → occ q (liveBlocks g b₂) ≤ occ q (liveBlocks g b) + above q + sum (g .leaves) (λ l. beside l q) + sum (files g) (λ f. within f q)
-  commit-counts {wanted} {above} {beside} {within} c q = omega (
+  -- the live blocks are those of b and the extra ones, less those that are gone
+  pub commit-counts : {wanted : ℕ → List ℕ} {above lessAbove : ℕ → ℕ} {beside lessBeside within lessWithin : ℕ → ℕ → ℕ} → Commit g b b₂ wanted above lessAbove beside lessBeside within lessWithin
+      → (q : ℕ) → occ q (liveBlocks g b₂) + lessAbove q + sum (g .leaves) (λ l. lessBeside l q) + sum (files g) (λ f. lessWithin f q)
+      ≡ occ q (liveBlocks g b) + above q + sum (g .leaves) (λ l. beside l q) + sum (files g) (λ f. within f q)
+  commit-counts {wanted} {above} {lessAbove} {beside} {lessBeside} {within} {lessWithin} c q = omega (
     arith,
     c .inode q,
     occ-live g b q,
     occ-live g b₂ q,
-    sum-le (g .leaves) (λ l. one q (leaf g b₂ l)) (λ l. one q (leaf g b l) + beside l q) (λ l u. c .leaves-moved l u q),
+    sum-cong (g .leaves) (λ l. one q (leaf g b₂ l) + lessBeside l q) (λ l. one q (leaf g b l) + beside l q) (λ l u. c .leaves-moved l u q),
+    sum-add (g .leaves) (λ l. one q (leaf g b₂ l)) (λ l. lessBeside l q),
     sum-add (g .leaves) (λ l. one q (leaf g b l)) (λ l. beside l q),
-    sum-le (files g) (λ f. occ q (fileBlocks g b₂ f)) (λ f. occ q (fileBlocks g b f) + within f q) (λ f u. c .all-files f u .counts q),
+    sum-cong (files g) (λ f. occ q (fileBlocks g b₂ f) + lessWithin f q) (λ f. occ q (fileBlocks g b f) + within f q) (λ f u. c .all-files f u .counts q),
+    sum-add (files g) (λ f. occ q (fileBlocks g b₂ f)) (λ f. lessWithin f q),
     sum-add (files g) (λ f. occ q (fileBlocks g b f)) (λ f. within f q),
   )
 
-  pub commit-accepted : {wanted : ℕ → List ℕ} {above : ℕ → ℕ} {beside within : ℕ → ℕ → ℕ} → Commit g b b₂ wanted above beside within → T (accepted g b) → T (accepted g b₂)
+  pub commit-accepted : {wanted : ℕ → List ℕ} {above lessAbove : ℕ → ℕ} {beside lessBeside within lessWithin : ℕ → ℕ → ℕ} → Commit g b b₂ wanted above lessAbove beside lessBeside within lessWithin → T (accepted g b) → T (accepted g b₂)
   commit-accepted c t = parts-accepted g b₂ (record {
     words = rw (← (words-kept g b b₂ (c .lengths))) (accepted-parts g b t .words);
     trailers = c .trailers;
@@ -81,7 +84,7 @@ module _ (g : Layout) (fit : Fits g) (b b₂ : List ℕ) (len : length b ≡ len
 
   -- a file that is not touched
   pub kept-commit : size g b f ≡ size g b₂ f → (0 < size g b f → root g b f ≡ root g b₂ f) → agree (g .words) b b₂ (root g b f % g .words) (root g b f / g .words) (size g b f)
-      → T (fileSound g b f) → FileCommit g b b₂ f (contents g b f) (λ q. 0)
+      → T (fileSound g b f) → FileCommit g b b₂ f (contents g b f) (λ q. 0) (λ q. 0)
   unfolding fileSound fileBlocks
   kept-commit sizes roots tree t =
       let n : ℕ = size g b f in
@@ -113,7 +116,7 @@ module _ (g : Layout) (fit : Fits g) (b b₂ : List ℕ) (len : length b ≡ len
   ]
 
   -- a file that is written: m bytes, `new` at o, in a tree of the height that it had
-  pub record Written (h k o m : ℕ) (new : List ℕ) (extra : ℕ → ℕ) : Type 0 where
+  pub record Written (h k o m : ℕ) (new : List ℕ) (extra gone : ℕ → ℕ) : Type 0 where
     pub old : Had g b f h k
     pub height : root g b₂ f % g .words ≡ h
     pub now : size g b₂ f ≡ m
@@ -121,9 +124,9 @@ module _ (g : Layout) (fit : Fits g) (b b₂ : List ℕ) (len : length b ≡ len
     pub most : m ≤ greatest g
     -- past the span nothing is seen
     pub past : (i : ℕ) → span (g .words) h ≤ i → i < m → splice o new 0 i ≡ 0
-    pub change : Changed (g .words) b b₂ (blockCount g b - 1) h k (root g b₂ f / g .words) (size g b f) m o new extra
+    pub change : Changed (g .words) b b₂ (blockCount g b - 1) h k (root g b₂ f / g .words) (size g b f) m o new extra gone
 
-  module _ (h k o m : ℕ) (new : List ℕ) (extra : ℕ → ℕ) (w : Written h k o m new extra) where
+  module _ (h k o m : ℕ) (new : List ℕ) (extra gone : ℕ → ℕ) (w : Written h k o m new extra gone) where
     written-byte : (i : ℕ) → i < m → rootByte (g .words) b₂ (root g b₂ f) m i ≡ splice o new (seen (size g b f - i) (rootByte (g .words) b (root g b f) (size g b f) i)) i
     written-byte i l =
         let n : ℕ = size g b f in
@@ -139,7 +142,7 @@ module _ (g : Layout) (fit : Fits g) (b b₂ : List ℕ) (len : length b ≡ len
               root-byte-in (g .words) b₂ (root g b₂ f) m i (rw (w .height) l′) ∙ now ∙ ap (λ (x : ℕ). splice o new x i) (had-byte h k i (w .old) l′)
         ]
 
-    pub written-commit : T (sound (g .words) b (blockCount g b - 1) h k (size g b f)) → FileCommit g b b₂ f (spliced g b f o new m) extra
+    pub written-commit : T (sound (g .words) b (blockCount g b - 1) h k (size g b f)) → FileCommit g b b₂ f (spliced g b f o new m) extra gone
     unfolding fileSound fileBlocks rootBlocks
     written-commit t = record {
       sound = rw (w .now, ← (count-kept g b b₂ len)) (and-both (leb m (greatest g)) (rootSound (g .words) b₂ (g .height) (blockCount g b - 1) (root g b₂ f) m) (le→leb m (greatest g) (w .most))
@@ -151,7 +154,7 @@ module _ (g : Layout) (fit : Fits g) (b b₂ : List ℕ) (len : length b ≡ len
   -- a file whose tree is grown
   pub grown-commit : (h′ : ℕ) (extra : ℕ → ℕ) → 0 < size g b f → size g b f ≡ size g b₂ f → root g b₂ f % g .words ≡ h′ → h′ ≤ g .height
       → Grown (g .words) b b₂ (blockCount g b - 1) (root g b f % g .words) (root g b f / g .words) h′ (root g b₂ f / g .words) (size g b f) extra
-      → T (fileSound g b f) → FileCommit g b b₂ f (contents g b f) extra
+      → T (fileSound g b f) → FileCommit g b b₂ f (contents g b f) extra (λ q. 0)
   unfolding fileSound fileBlocks rootBlocks rootByte
   grown-commit h′ extra live sizes height low w t =
       let n : ℕ = size g b f in
@@ -161,7 +164,7 @@ module _ (g : Layout) (fit : Fits g) (b b₂ : List ℕ) (len : length b ≡ len
             (root-sound-of (g .height) (blockCount g b - 1) (root g b₂ f) n (rw height low)
             (rw height (w .fine (root-sound-parts g b (g .height) (blockCount g b - 1) (root g b f) n live (old .1) .1)))));
         reads = rw (contents-bytes g pos b f, contents-bytes g pos b₂ f, ← sizes) (tabulate-cong n _ _ (λ i l. rw height (w .bytes i)));
-        counts = λ q. rw (← sizes, height) (w .counts q);
+        counts = λ q. rw (← sizes, height) (omega (arith, w .counts q));
       }
 
 -- ---- One file
@@ -184,15 +187,15 @@ others-from g pos b c b₂ f s o = record {
 }
 
 -- file f alone is changed, and with it its leaf may move: `beside` and `within` count the extra blocks of the two
-pub record OneFile (g : Layout) (b b₂ : List ℕ) (f : ℕ) (wanted : List ℕ) (beside within : ℕ → ℕ) : Type 0 where
+pub record OneFile (g : Layout) (b b₂ : List ℕ) (f : ℕ) (wanted : List ℕ) (beside lessBeside within lessWithin : ℕ → ℕ) : Type 0 where
   pub lengths : length b ≡ length b₂
   pub trailers : T (trailerSound g b₂)
   pub inode : inodeBlock g b ≡ inodeBlock g b₂
   pub leaves : (l : ℕ) → l < g .leaves → T (leafSound g b₂ l)
   pub leaves-stay : (l : ℕ) → l < g .leaves → l ≢ f / g .inodes → leaf g b l ≡ leaf g b₂ l
-  pub leaf-moved : Moved (leaf g b (f / g .inodes)) (leaf g b₂ (f / g .inodes)) beside
+  pub leaf-moved : Moved (leaf g b (f / g .inodes)) (leaf g b₂ (f / g .inodes)) beside lessBeside
   pub others : Others g b b₂ f
-  pub file : FileCommit g b b₂ f wanted within
+  pub file : FileCommit g b b₂ f wanted within lessWithin
   pub spare : (q : ℕ) → occ q (liveBlocks g b) + beside q + within q ≤ 1
 
 -- the board is accepted, the file reads as wanted, and the others as before
@@ -201,30 +204,30 @@ pub record Outcome (g : Layout) (b b₂ : List ℕ) (f : ℕ) (wanted : List ℕ
   pub reads : contents g b₂ f ≡ wanted
   pub kept : (i : ℕ) → i < files g → i ≢ f → contents g b₂ i ≡ contents g b i
 
-module _ (g : Layout) (fit : Fits g) (b b₂ : List ℕ) (f : ℕ) (wanted : List ℕ) (beside within : ℕ → ℕ) (c : OneFile g b b₂ f wanted beside within) (t : T (accepted g b)) where
+module _ (g : Layout) (fit : Fits g) (b b₂ : List ℕ) (f : ℕ) (wanted : List ℕ) (beside lessBeside within lessWithin : ℕ → ℕ) (c : OneFile g b b₂ f wanted beside lessBeside within lessWithin) (t : T (accepted g b)) where
   -- what file i reads
   reads-of : ℕ → List ℕ
   reads-of i = contents g b₂ i
 
-  other : (i : ℕ) → i < files g → i ≢ f → FileCommit g b b₂ i (contents g b i) (λ q. 0)
+  other : (i : ℕ) → i < files g → i ≢ f → FileCommit g b b₂ i (contents g b i) (λ q. 0) (λ q. 0)
   other i u d = kept-commit g fit b b₂ (c .lengths) i (c .others .sizes i u d) (c .others .roots i u d) (c .others .trees i u d) (accepted-parts g b t .files-sound i u)
 
-  each : (i : ℕ) → i < files g → FileCommit g b b₂ i (reads-of i) (λ q. only i f (within q))
+  each : (i : ℕ) → i < files g → FileCommit g b b₂ i (reads-of i) (λ q. only i f (within q)) (λ q. only i f (lessWithin q))
   unfolding reads-of
   each i u = elim (decide i f) [
-    | inl e ↦ rw e (record { sound = c .file .sound; reads = refl; counts = λ q. omega (arith, c .file .counts q, only-same f (within q)) })
-    | inr d ↦ let o = other i u d in record { sound = o .sound; reads = refl; counts = λ q. omega (arith, o .counts q) }
+    | inl e ↦ rw e (record { sound = c .file .sound; reads = refl; counts = λ q. omega (arith, c .file .counts q, only-same f (within q), only-same f (lessWithin q)) })
+    | inr d ↦ let o = other i u d in record { sound = o .sound; reads = refl; counts = λ q. omega (arith, o .counts q, only-other i f (within q) d, only-other i f (lessWithin q) d) }
   ]
 
-  commit : Commit g b b₂ reads-of (λ q. 0) (λ l q. only l (f / g .inodes) (beside q)) (λ i q. only i f (within q))
+  commit : Commit g b b₂ reads-of (λ q. 0) (λ q. 0) (λ l q. only l (f / g .inodes) (beside q)) (λ l q. only l (f / g .inodes) (lessBeside q)) (λ i q. only i f (within q)) (λ i q. only i f (lessWithin q))
   commit = record {
     lengths = c .lengths;
     trailers = c .trailers;
     inode = λ q. omega (arith, ap (one q) (c .inode));
     leaves = c .leaves;
     leaves-moved = λ l u q. elim (decide l (f / g .inodes)) [
-      | inl e ↦ rw e (omega (arith, c .leaf-moved q, only-same (f / g .inodes) (beside q)))
-      | inr d ↦ omega (arith, ap (one q) (c .leaves-stay l u d))
+      | inl e ↦ rw e (omega (arith, c .leaf-moved q, only-same (f / g .inodes) (beside q), only-same (f / g .inodes) (lessBeside q)))
+      | inr d ↦ omega (arith, ap (one q) (c .leaves-stay l u d), only-other l (f / g .inodes) (beside q) d, only-other l (f / g .inodes) (lessBeside q) d)
     ];
     all-files = each;
     spare = λ q. omega (arith, c .spare q, sum-only (g .leaves) (f / g .inodes) (beside q), sum-only (files g) f (within q));
@@ -237,5 +240,14 @@ module _ (g : Layout) (fit : Fits g) (b b₂ : List ℕ) (f : ℕ) (wanted : Lis
     kept = λ i u d. other i u d .reads;
   }
 
-  pub one-file-counts : (q : ℕ) → occ q (liveBlocks g b₂) ≤ occ q (liveBlocks g b) + beside q + within q
-  one-file-counts q = omega (arith, commit-counts g b b₂ commit q, sum-only (g .leaves) (f / g .inodes) (beside q), sum-only (files g) f (within q))
+  pub one-file-counts : f < files g → (q : ℕ) → occ q (liveBlocks g b₂) + lessBeside q + lessWithin q ≡ occ q (liveBlocks g b) + beside q + within q
+  one-file-counts f-lt q =
+      let l-lt : f / g .inodes < g .leaves = leaf-of g fit f f-lt in
+      omega (
+        arith,
+        commit-counts g b b₂ commit q,
+        sum-only-at (g .leaves) (f / g .inodes) (beside q) l-lt,
+        sum-only-at (g .leaves) (f / g .inodes) (lessBeside q) l-lt,
+        sum-only-at (files g) f (within q) f-lt,
+        sum-only-at (files g) f (lessWithin q) f-lt,
+      )

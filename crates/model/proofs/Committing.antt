@@ -41,8 +41,8 @@ module _ (g : Layout) (fit : Fits g) (b c : List ℕ) (t : T (accepted g b)) (sa
     pointers : (l : ℕ) → l < g .leaves → inodePointer g b l ≡ inodePointer g b₂ l
     pointers l u = same .pointers l u ∙ spot-pointer g fit c facts-same f f-lt a v s l u
 
-    module _ (wanted : List ℕ) (extra : ℕ → ℕ) (file : FileCommit g b b₂ f wanted extra) (spare : (q : ℕ) → occ q (liveBlocks g b) + extra q ≤ 1) where
-      one-word : OneFile g b b₂ f wanted (λ q. 0) extra
+    module _ (wanted : List ℕ) (extra gone : ℕ → ℕ) (file : FileCommit g b b₂ f wanted extra gone) (spare : (q : ℕ) → occ q (liveBlocks g b) + extra q ≤ 1) where
+      one-word : OneFile g b b₂ f wanted (λ q. 0) (λ q. 0) extra gone
       one-word =
           let parts = accepted-parts g b t in
           let stays : (l : ℕ) → l < g .leaves → leaf g b l ≡ leaf g b₂ l = λ l u. leaf-kept g b b₂ len l (pointers l u) in
@@ -59,8 +59,8 @@ module _ (g : Layout) (fit : Fits g) (b c : List ℕ) (t : T (accepted g b)) (sa
           }
 
       pub spot-commit : Outcome g b b₂ f wanted
-      spot-commit = one-file g fit b b₂ f wanted (λ q. 0) extra one-word t
+      spot-commit = one-file g fit b b₂ f wanted (λ q. 0) (λ q. 0) extra gone one-word t
 
-      -- the live blocks are those of b and at most the extra ones
-      pub spot-counts : (q : ℕ) → occ q (liveBlocks g b₂) ≤ occ q (liveBlocks g b) + extra q
-      spot-counts q = omega (arith, one-file-counts g fit b b₂ f wanted (λ q. 0) extra one-word t q)
+      -- the live blocks are those of b and the extra ones, less those that are gone
+      pub spot-counts : (q : ℕ) → occ q (liveBlocks g b₂) + gone q ≡ occ q (liveBlocks g b) + extra q
+      spot-counts q = omega (arith, one-file-counts g fit b b₂ f wanted (λ q. 0) (λ q. 0) extra gone one-word t f-lt q)

@@ -19,7 +19,7 @@ use Rattle.model.specs.Fresh.{splice, part, build}
 use Rattle.model.specs.InPlace.{atBlock}
 use Rattle.model.specs.Change.{splicedWord, Shadow, descend}
 use Rattle.model.proofs.Cases.{split, decide}
-use Rattle.model.proofs.Sums.{sum-at, sum-two, only, only-same, sum-only}
+use Rattle.model.proofs.Sums.{sum-at, sum-two, only, only-same, only-other, sum-only-at}
 use Rattle.model.proofs.Counting.{occ, one-same}
 use Rattle.model.proofs.Bytes.{byteOf-lt, byteOf-wordOf}
 use Rattle.model.proofs.Spans.{span-power, child}
@@ -27,8 +27,9 @@ use Rattle.model.proofs.Perform.{address-block}
 use Rattle.model.proofs.Trees.{childBlocks, walk-null}
 use Rattle.model.proofs.Agree.{byteAt, seen-live, frame, beneath, aligned-zero, sound-child, sound-root, occ-children, occ-root, occ-child}
 use Rattle.model.proofs.Splice.{Small, length-part, splice-small, splice-part, splice-skip, part-whole, part-none}
+use Rattle.model.specs.GivenUp.{pathBlocks, insideBlocks}
 use Rattle.model.proofs.Paths.{touched-new}
-use Rattle.model.proofs.Changed.{Changed, weaken, kept, node}
+use Rattle.model.proofs.Changed.{Changed, recount, kept, node}
 use Rattle.model.proofs.Built.{held, used, length-build, build-changed}
 use Rattle.model.proofs.Shown.{place-in-block}
 
@@ -100,7 +101,7 @@ module _ (W : ℕ) (pos : 0 < W) (b b₂ : List ℕ) (A h k n : ℕ) (live : 0 <
     ]
 
     other-child : (top o : ℕ) (new : List ℕ) → j * span W h ≤ o → o + length new ≤ j * span W h + span W h → (i : ℕ) → i < W → i ≢ j
-        → Changed W b b₂ top h (cell W b (suc k) i / W) (cell W b₂ (suc k) i / W) (n - i * span W h) (n - i * span W h) (o - i * span W h) (part (span W h) i o new) (λ q. 0)
+        → Changed W b b₂ top h (cell W b (suc k) i / W) (cell W b₂ (suc k) i / W) (n - i * span W h) (n - i * span W h) (o - i * span W h) (part (span W h) i o new) (λ q. 0) (λ q. 0)
     other-child top o new lo hi i l d =
         kept W pos b b₂ top h (cell W b (suc k) i / W) (cell W b₂ (suc k) i / W) (n - i * span W h) (n - i * span W h) (o - i * span W h) (part (span W h) i o new)
         (rw (length-part (span W h) i o new) (omega (arith, part-none (span W h) j o (length new) i lo hi d))) (omega arith) (λ t u v w. absurd (omega arith))
@@ -108,24 +109,24 @@ module _ (W : ℕ) (pos : 0 < W) (b b₂ : List ℕ) (A h k n : ℕ) (live : 0 <
         (λ z. ap (λ (x : ℕ). x / W) (sym (root-word i l (other-word i l d))))
 
   -- what becomes of the child that has all written bytes becomes of the tree
-  down : (top o : ℕ) (new : List ℕ) (extra : ℕ → ℕ) → o < span W (suc h) → o % span W h + length new ≤ span W h → let j = o / span W h in Under j
-      → Changed W b b₂ top h (cell W b (suc k) j / W) (cell W b₂ (suc k) j / W) (n - j * span W h) (n - j * span W h) (o % span W h) new extra
-      → Changed W b b₂ top (suc h) (suc k) (suc k) n n o new extra
+  down : (top o : ℕ) (new : List ℕ) (extra gone : ℕ → ℕ) → o < span W (suc h) → o % span W h + length new ≤ span W h → let j = o / span W h in Under j
+      → Changed W b b₂ top h (cell W b (suc k) j / W) (cell W b₂ (suc k) j / W) (n - j * span W h) (n - j * span W h) (o % span W h) new extra gone
+      → Changed W b b₂ top (suc h) (suc k) (suc k) n n o new extra gone
   unfolding link beneath
-  down top o new extra under fits spot change =
+  down top o new extra gone under fits spot change =
       let s = span W h in
       let j = o / s in
       let j-lt : j < W = child W pos h o under .which in
       let at : j * s + o % s ≡ o = div-add-mod' o s in
       let offset : o - j * s ≡ o % s = omega arith in
       let whole : part s j o new ≡ new = part-whole s j o new (omega arith) (omega arith) in
-      node W pos b b₂ top h (suc k) (suc k) n n o new extra (λ i q. only i j (extra q))
+      node W pos b b₂ top h (suc k) (suc k) n n o new extra gone (λ i q. only i j (extra q)) (λ i q. only i j (gone q)) (omega arith) live
       (sound-root W pos top b h (suc k) n (omega arith) live)
       (λ i l t. low-bits j j-lt spot i (n - i * s) l t)
-      (λ q. omega (arith, occ-children W pos b h k n live q, sum-only W j (extra q)))
+      (λ q. omega (arith, occ-children W pos b h k n live q, sum-only-at W j (extra q) j-lt, sum-only-at W j (gone q) j-lt))
       (λ i l. elim (decide i j) [
-        | inl e ↦ rw e (weaken W pos b b₂ top h _ _ _ _ _ _ extra _ (λ q. omega (arith, only-same j (extra q))) (rw (offset, whole) change))
-        | inr d ↦ weaken W pos b b₂ top h _ _ _ _ _ _ (λ q. 0) _ (λ q. omega arith) (other-child j j-lt spot top o new (omega arith) (omega arith) i l d)
+        | inl e ↦ rw e (recount W pos b b₂ top h _ _ _ _ _ _ extra gone _ _ (λ q. omega (arith, only-same j (extra q), only-same j (gone q))) (rw (offset, whole) change))
+        | inr d ↦ recount W pos b b₂ top h _ _ _ _ _ _ (λ q. 0) (λ q. 0) _ _ (λ q. omega (arith, only-other i j (extra q) d, only-other i j (gone q) d)) (other-child j j-lt spot top o new (omega arith) (omega arith) i l d)
       ])
 
 -- ---- shadow inside the file: the word is a pointer
@@ -141,6 +142,25 @@ module _ (W : ℕ) (fresh : ℕ → ℕ) (b : List ℕ) (new : List ℕ) (c : �
       → descend W fresh b (suc h) (suc k) n o new c a ≡ record { at = a; pages = build W fresh b (suc h) (suc k) n o new c }
   unfolding descend
   descend-stop h k n o a more = rw (lt-leb (o % span W h + length new) (span W h) more)
+
+-- the blocks given up, the same
+module _ (W : ℕ) (b : List ℕ) where
+  inside-on : (h k n o l : ℕ) → o % span W h + l ≤ span W h
+      → insideBlocks W b (suc h) (suc k) n o l ≡ insideBlocks W b h (cell W b (suc k) (o / span W h) / W) (n - o / span W h * span W h) (o % span W h) l
+  unfolding insideBlocks
+  inside-on h k n o l fits = rw (le-leb (o % span W h + l) (span W h) fits)
+
+  inside-stop : (h k n o l : ℕ) → span W h < o % span W h + l → insideBlocks W b (suc h) (suc k) n o l ≡ pathBlocks W b (suc h) (suc k) n o l
+  unfolding insideBlocks
+  inside-stop h k n o l more = rw (lt-leb (o % span W h + l) (span W h) more)
+
+  inside-zero : (k n o l : ℕ) → insideBlocks W b zero k n o l ≡ pathBlocks W b zero k n o l
+  unfolding insideBlocks
+  inside-zero k n o l = refl
+
+  inside-null : (h n o l : ℕ) → insideBlocks W b (suc h) zero n o l ≡ pathBlocks W b (suc h) zero n o l
+  unfolding insideBlocks pathBlocks
+  inside-null h n o l = refl
 
 module _ (W : ℕ) (pos : 0 < W) (fresh : ℕ → ℕ) (b : List ℕ) (new : List ℕ) (c : ℕ) where
   -- the word that commits is the tree's own pointer, or lies in a live block of the tree
@@ -189,11 +209,11 @@ module _ (W : ℕ) (pos : 0 < W) (fresh : ℕ → ℕ) (b : List ℕ) (new : Lis
       ]
 
 module _ (W : ℕ) (fresh : ℕ → ℕ) (b b₂ : List ℕ) (c lim : ℕ) where
-  -- a write at o of the tree (h, k, n), whose own pointer stands at address a, outside the tree: b₂ holds the pages, and where they are committed
+  -- a write of l bytes at o of the tree (h, k, n), whose own pointer stands at address a, outside the tree: b₂ holds the pages, and where they are committed
   -- a pointer to the last of them
-  pub record Committed (sh : Shadow) (h k n o a : ℕ) : Type 0 where
+  pub record Committed (l : ℕ) (sh : Shadow) (h k n o a : ℕ) : Type 0 where
     pub replaced : Replaced W b b₂ (sh .at) h k n
-    pub within : o < n
+    pub within : o + l ≤ n
     pub under : o < span W h
     pub outside : occ (a / W) (blocks W b h k n) ≡ 0
     pub holds : held W fresh b₂ (sh .pages) c
@@ -204,25 +224,25 @@ module _ (W : ℕ) (fresh : ℕ → ℕ) (b b₂ : List ℕ) (c lim : ℕ) where
 module _ (W : ℕ) (pos : 0 < W) (fresh : ℕ → ℕ) (b b₂ : List ℕ) (new : List ℕ) (some : 0 < length new) (small : Small new) (c lim : ℕ)
     (nonzero : (i : ℕ) → i < lim → 0 < fresh i) (top : ℕ) (below : (i : ℕ) → i < lim → fresh i < top) where
   -- then the tree is changed. k₂ is its block on b₂: what its own pointer leads to there if that is the word replaced, else the old one
-  abbrev Done : Shadow → ℕ → ℕ → ℕ → ℕ → ℕ → Type 0
-  Done sh h k n o a = Committed W fresh b b₂ c lim sh h k n o a → (k₂ : ℕ) → (sh .at ≡ a → k₂ ≡ getD b₂ a 0 / W) → (sh .at ≢ a → k₂ ≡ k)
-      → Changed W b b₂ top h k k₂ n n o new (λ q. used fresh q c (length (sh .pages)))
+  abbrev Done : Shadow → ℕ → ℕ → ℕ → ℕ → ℕ → List ℕ → Type 0
+  Done sh h k n o a given = Committed W fresh b b₂ c lim (length new) sh h k n o a → (k₂ : ℕ) → (sh .at ≡ a → k₂ ≡ getD b₂ a 0 / W) → (sh .at ≢ a → k₂ ≡ k)
+      → Changed W b b₂ top h k k₂ n n o new (λ q. used fresh q c (length (sh .pages))) (λ q. occ q given)
 
   -- the descent ends at the tree's own pointer
-  stop : (h k n o a : ℕ) → Done (record { at = a; pages = build W fresh b h k n o new c }) h k n o a
+  stop : (h k n o a : ℕ) → Done (record { at = a; pages = build W fresh b h k n o new c }) h k n o a (pathBlocks W b h k n o (length new))
   stop h k n o a r k₂ own other =
       let len = length-build W pos b fresh h k n o new c in
       rw (own refl, r .value, len)
       (build-changed W pos b fresh b₂ lim nonzero top below h k n o new c n (touched-new W h k n o (length new) some) (omega (arith, len, r .room)) small (r .holds)
       (frame W pos b b₂ h k n (λ q f t l. r .replaced .same q f t l (λ e. omega (arith, subst (λ (x : ℕ). 0 < occ x (blocks W b h k n)) (sym (block-of W q t a l e)) f, r .outside))))
-      (omega arith) (λ i u w l. absurd (omega arith)))
+      (omega arith) (omega (arith, r .within)) (λ u. r .within) (λ i u w l. absurd (omega arith)))
 
   -- it goes on below it
-  on : (h k n o a : ℕ) (sh : Shadow) → o % span W h + length new ≤ span W h → let s = span W h in let j = o / s in
+  on : (h k n o a : ℕ) (sh : Shadow) (given : List ℕ) → o % span W h + length new ≤ span W h → let s = span W h in let j = o / s in
       (sh .at ≡ W * suc k + j) ⊎ (0 < occ (sh .at / W) (childBlocks W b h (suc k) n j))
-      → Done sh h (cell W b (suc k) j / W) (n - j * s) (o % s) (W * suc k + j) → Done sh (suc h) (suc k) n o a
+      → Done sh h (cell W b (suc k) j / W) (n - j * s) (o % s) (W * suc k + j) given → Done sh (suc h) (suc k) n o a given
   unfolding cell
-  on h k n o a sh fits spot ih r k₂ own other =
+  on h k n o a sh given fits spot ih r k₂ own other =
       let s = span W h in
       let j = o / s in
       let place = child W pos h o (r .under) in
@@ -232,7 +252,7 @@ module _ (W : ℕ) (pos : 0 < W) (fresh : ℕ → ℕ) (b b₂ : List ℕ) (new 
         | inr f ↦ omega (arith, occ-child W pos b h k n live (sh .at / W) j (place .which))
       ] in
       let moved : sh .at ≢ a = λ e. omega (arith, subst (λ (x : ℕ). 0 < occ (x / W) (blocks W b (suc h) (suc k) n)) e inner, r .outside) in
-      rw (other moved) (down W pos b b₂ (sh .at) h k n live (r .replaced) top o new (λ q. used fresh q c (length (sh .pages))) (r .under) fits
+      rw (other moved) (down W pos b b₂ (sh .at) h k n live (r .replaced) top o new (λ q. used fresh q c (length (sh .pages))) (λ q. occ q given) (r .under) fits
       (elim spot [ inl e ↦ inl (e, r .low moved) | inr f ↦ inr f ])
       (ih (record {
         replaced = child-replaced W pos b b₂ (sh .at) h k n live (r .replaced) j (place .which);
@@ -246,23 +266,23 @@ module _ (W : ℕ) (pos : 0 < W) (fresh : ℕ → ℕ) (b b₂ : List ℕ) (new 
       }) (cell W b₂ (suc k) j / W) (λ e. refl)
       (λ d. ap (λ (x : ℕ). x / W) (sym (root-word W pos b b₂ (sh .at) h k n live (r .replaced) j (place .which) (λ e. d (sym e)))))))
 
-  pub descend-changed : (h k n o a : ℕ) → let sh = descend W fresh b h k n o new c a in Committed W fresh b b₂ c lim sh h k n o a
+  pub descend-changed : (h k n o a : ℕ) → let sh = descend W fresh b h k n o new c a in Committed W fresh b b₂ c lim (length new) sh h k n o a
       → (k₂ : ℕ) → (sh .at ≡ a → k₂ ≡ getD b₂ a 0 / W) → (sh .at ≢ a → k₂ ≡ k)
-      → Changed W b b₂ top h k k₂ n n o new (λ q. used fresh q c (length (sh .pages)))
+      → Changed W b b₂ top h k k₂ n n o new (λ q. used fresh q c (length (sh .pages))) (λ q. occ q (insideBlocks W b h k n o (length new)))
   unfolding descend
-  descend-changed zero k n o a = stop zero k n o a
-  descend-changed (suc h) zero n o a = stop (suc h) zero n o a
+  descend-changed zero k n o a = rw (inside-zero W b k n o (length new)) (stop zero k n o a)
+  descend-changed (suc h) zero n o a = rw (inside-null W b h n o (length new)) (stop (suc h) zero n o a)
   descend-changed (suc h) (suc k) n o a =
       let s = span W h in
       let j = o / s in
       elim (split (o % s + length new) s) [
-        | inl fits ↦ subst (λ (sh : Shadow). Done sh (suc h) (suc k) n o a) (sym (descend-on W fresh b new c h k n o a fits))
+        | inl fits ↦ rw (inside-on W b h k n o (length new) fits) (subst (λ (sh : Shadow). Done sh (suc h) (suc k) n o a (insideBlocks W b h (cell W b (suc k) j / W) (n - j * s) (o % s) (length new))) (sym (descend-on W fresh b new c h k n o a fits))
             (λ r.
             let place = child W pos h o (r .under) in
-            on h k n o a (descend W fresh b h (cell W b (suc k) j / W) (n - j * s) (o % s) new c (W * suc k + j)) fits
+            on h k n o a (descend W fresh b h (cell W b (suc k) j / W) (n - j * s) (o % s) new c (W * suc k + j)) (insideBlocks W b h (cell W b (suc k) j / W) (n - j * s) (o % s) (length new)) fits
             (descend-inside W pos fresh b new c h (cell W b (suc k) j / W) (n - j * s) (o % s) (W * suc k + j) (omega (arith, r .within, place .there)) (place .inside))
-            (descend-changed h (cell W b (suc k) j / W) (n - j * s) (o % s) (W * suc k + j)) r)
-        | inr more ↦ subst (λ (sh : Shadow). Done sh (suc h) (suc k) n o a) (sym (descend-stop W fresh b new c h k n o a more)) (stop (suc h) (suc k) n o a)
+            (descend-changed h (cell W b (suc k) j / W) (n - j * s) (o % s) (W * suc k + j)) r))
+        | inr more ↦ rw (inside-stop W b h k n o (length new) more) (subst (λ (sh : Shadow). Done sh (suc h) (suc k) n o a (pathBlocks W b (suc h) (suc k) n o (length new))) (sym (descend-stop W fresh b new c h k n o a more)) (stop (suc h) (suc k) n o a))
       ]
 
 -- ---- single word: the word is one of a data block
@@ -340,7 +360,7 @@ module _ (new : List ℕ) (small : Small new) where
     ]
 
     block-changed : (k n o : ℕ) → o % 8 ≡ p → W * suc k + o / 8 ≡ A → Replaced W b b₂ A 0 (suc k) (suc n)
-        → Changed W b b₂ top 0 (suc k) (suc k) (suc n) (suc n) o new (λ q. 0)
+        → Changed W b b₂ top 0 (suc k) (suc k) (suc n) (suc n) o new (λ q. 0) (λ q. 0)
     unfolding byteAt link blocks sound span occ
     block-changed k n o e at r = record {
       bytes = λ i l v. seen-live (suc n - i) _ (omega arith) ∙ block-byte (suc k) o e at (r .same (suc k) (omega (arith, one-same (suc k)))) i l
@@ -351,7 +371,7 @@ module _ (new : List ℕ) (small : Small new) where
 
     -- so does the tree that the walk goes through
     walk-changed : (h k n o K : ℕ) → o < span W h → o % 8 ≡ p → W * K + o % span W 0 / 8 ≡ A → walk W b h k n o ≡ Block K → Replaced W b b₂ A h k n
-        → Changed W b b₂ top h k k n n o new (λ q. 0)
+        → Changed W b b₂ top h k k n n o new (λ q. 0) (λ q. 0)
     unfolding walk ending link
     walk-changed zero zero n o K u e at to r = absurd (hole≢block K to)
     walk-changed zero (suc k) zero o K u e at to r = absurd (hole≢block K to)
@@ -366,8 +386,8 @@ module _ (new : List ℕ) (small : Small new) where
         rw (block-of W K (o % span W 0 / 8) A (word-in-block W pos o) at) (walk-inside W b pos h (cell W b (suc k) j / W) (n - j * s) (o % s) K (place .inside) to) in
         let kept-word : cell W b (suc k) j ≡ cell W b₂ (suc k) j =
         root-word W pos b b₂ A h k n live r j (place .which) (inner-word W pos b b₂ A h k n live r j j (place .which) (place .which) inner) in
-        down W pos b b₂ A h k n live r top o new (λ q. 0) u (omega (arith, place .inside, span-power W h, place-in-word W h o)) (inr inner)
-        (subst (λ (w : ℕ). Changed W b b₂ top h (cell W b (suc k) j / W) (w / W) (n - j * s) (n - j * s) (o % s) new (λ q. 0)) kept-word
+        down W pos b b₂ A h k n live r top o new (λ q. 0) (λ q. 0) u (omega (arith, place .inside, span-power W h, place-in-word W h o)) (inr inner)
+        (subst (λ (w : ℕ). Changed W b b₂ top h (cell W b (suc k) j / W) (w / W) (n - j * s) (n - j * s) (o % s) new (λ q. 0) (λ q. 0)) kept-word
         (walk-changed h (cell W b (suc k) j / W) (n - j * s) (o % s) K (place .inside) (place-in-word W h o ∙ e)
         (ap (λ (x : ℕ). W * K + x / 8) (place-in-block W pos h o) ∙ at) to (child-replaced W pos b b₂ A h k n live r j (place .which))))
 
@@ -375,6 +395,6 @@ module _ (W : ℕ) (pos : 0 < W) (b b₂ : List ℕ) (new : List ℕ) (small : S
   -- `new` lies in one word, of the data block K: only that word is stored
   pub word-changed : (h k n o K : ℕ) → walk W b h k n o ≡ Block K → o < span W h → o / 8 ≡ (o + length new - 1) / 8
       → let A = W * K + o % span W 0 / 8 in Replaced W b b₂ A h k n → getD b₂ A 0 ≡ splicedWord (o % 8) new (getD b A 0)
-      → Changed W b b₂ top h k k n n o new (λ q. 0)
+      → Changed W b b₂ top h k k n n o new (λ q. 0) (λ q. 0)
   word-changed h k n o K to under one-word r value =
       walk-changed new small W pos b b₂ top (W * K + o % span W 0 / 8) (o % 8) value (omega arith) h k n o K under refl refl to r

@@ -89,7 +89,7 @@ module _ (g : Layout) (fit : Fits g) (b b′ : List ℕ) (ok : T (wordCountSound
   unfolding fileBlocks rootBlocks
   no-blocks f h = rw (size-zero f h) (blocks-dead (g .words) b′ (root g b′ f % g .words) (root g b′ f / g .words))
 
-  live-are : liveBlocks g b′ ≡ 1 ∷ (tabulate (g .leaves) (λ l. 2 + l) ++ [])
+  pub live-are : liveBlocks g b′ ≡ 1 ∷ (tabulate (g .leaves) (λ l. 2 + l) ++ [])
   unfolding liveBlocks
   live-are = rw (inode-block, tabulate-cong (g .leaves) (leaf g b′) (λ l. 2 + l) leaf-is, joined-none (files g) (fileBlocks g b′) no-blocks)
 
@@ -315,6 +315,9 @@ module _ (g : Layout) (fit : Fits g) (b : List ℕ) (ok : T (wordCountSound g b)
   -- *32 empty files*
   pub format-empties : Empty g (performed b (stores (pairs (formatPlan g b))))
   format-empties = rw performed-done (formatted-empty g fit b done ok formatted)
+
+  pub format-lives : liveBlocks g (performed b (stores (pairs (formatPlan g b)))) ≡ 1 ∷ (tabulate (g .leaves) (λ l. 2 + l) ++ [])
+  format-lives = rw performed-done (live-are g fit b done ok formatted)
 
 -- ---- The house's boards
 

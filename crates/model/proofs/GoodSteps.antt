@@ -29,6 +29,11 @@ pub record GoodStep (g : Layout) (b : List ℕ) (f : ℕ) (p : Step) (wanted : L
   pub within : Ranged g b (p .commit .at / g .words)
   pub outcome : Outcome g b (committed b p) f wanted
 
+-- so it is, and the live blocks are those before and the extra ones, less those that are gone
+pub record GoodTurn (g : Layout) (b : List ℕ) (f : ℕ) (p : Step) (wanted : List ℕ) (extra gone : ℕ → ℕ) : Type 0 where
+  pub good : GoodStep g b f p wanted
+  pub lives : (q : ℕ) → occ q (liveBlocks g (committed b p)) + gone q ≡ occ q (liveBlocks g b) + extra q
+
 pub good-safe : (g : Layout) (b : List ℕ) (f : ℕ) (p : Step) (wanted : List ℕ) → GoodStep g b f p wanted → SafeStep g b f p
 good-safe g b f p wanted s = record { hides = all-holds (hidden g b) (p .hidden) (s .hides); accepts = s .outcome .board; others = λ i u d. s .outcome .kept i u d }
 

@@ -13,21 +13,21 @@ use Rattle.model.specs.Tree.{span, cell, link, walk, blocks, sound}
 use Rattle.model.specs.Fresh.{Page}
 use Rattle.model.specs.Change.{levelPage, levelBelow, levels, levelTop}
 use Rattle.model.proofs.Cases.{split}
-use Rattle.model.proofs.Sums.{sum-le, only, only-same, sum-only}
+use Rattle.model.proofs.Sums.{sum-cong, only, only-same, only-other, sum-only-at}
 use Rattle.model.proofs.Counting.{one, occ}
 use Rattle.model.proofs.Spans.{child, span-pos, span-mono}
 use Rattle.model.proofs.Perform.{length-tabulate}
 use Rattle.model.proofs.Trees.{walk-null, blocks-null, sound-null}
-use Rattle.model.proofs.Agree.{byteAt, spanByte, agree, byteAt-null, span-byte-in, span-byte-past, span-byte-null, agree-span-byte, link-cell, agree-blocks, agree-sound, beneath, occ-above, sound-node, aligned-zero}
+use Rattle.model.proofs.Agree.{byteAt, spanByte, agree, byteAt-null, span-byte-in, span-byte-past, span-byte-null, agree-span-byte, link-cell, agree-blocks, agree-sound, beneath, occ-node, sound-node, aligned-zero}
 use Rattle.model.proofs.Built.{held, held-left, held-right, used}
 use Rattle.model.proofs.Shown.{agree-walk}
 
 module _ (W : ℕ) (b b′ : List ℕ) (top : ℕ) where
-  -- (h, k, n) on b has become (h′, k′, n) on b′: all bytes are as they were, walks to them end where they ended, and only the extra blocks are more
+  -- (h, k, n) on b has become (h′, k′, n) on b′: all bytes are as they were, walks to them end where they ended, and the extra blocks are more
   pub record Grown (h k h′ k′ n : ℕ) (extra : ℕ → ℕ) : Type 0 where
     pub bytes : (i : ℕ) → spanByte W b′ h′ k′ n i ≡ spanByte W b h k n i
     pub walks : (i : ℕ) → i < span W h → walk W b′ h′ k′ n i ≡ walk W b h k n i
-    pub counts : (q : ℕ) → occ q (blocks W b′ h′ k′ n) ≤ occ q (blocks W b h k n) + extra q
+    pub counts : (q : ℕ) → occ q (blocks W b′ h′ k′ n) ≡ occ q (blocks W b h k n) + extra q
     pub fine : T (sound W b top h k n) → T (sound W b′ top h′ k′ n)
 
 -- ---- one level: block p over the tree at block k
@@ -69,17 +69,17 @@ module _ (W : ℕ) (pos : 0 < W) (b : List ℕ) (h k p n : ℕ) (there : 0 < p) 
     ]
   ]
 
-  grow-occ : (q : ℕ) → occ q (blocks W b (suc h) p n) ≤ occ q (blocks W b h k n) + one q p
+  grow-occ : 0 < n → (q : ℕ) → occ q (blocks W b (suc h) p n) ≡ occ q (blocks W b h k n) + one q p
   unfolding beneath occ
-  grow-occ q =
+  grow-occ live q =
       let c : ℕ = occ q (blocks W b h k n) in
       omega (
         arith,
-        occ-above W pos b h p n q,
-        sum-only W 0 c,
-        sum-le W (λ j. occ q (blocks W b h (link W b p j / W) (n - j * span W h))) (λ j. only j 0 c) (λ j l. elim (split j 0) [
-          | inl z ↦ let z′ : j ≡ 0 = omega arith in rw z′ (rw (first-block, zero-mul, sub-zero) (omega (arith, only-same 0 c)))
-          | inr z ↦ rw (other-block j z l) (rw (blocks-null W b h (n - j * span W h)) (omega arith))
+        occ-node W pos b h p n q there live,
+        sum-only-at W 0 c pos,
+        sum-cong W (λ j. occ q (blocks W b h (link W b p j / W) (n - j * span W h))) (λ j. only j 0 c) (λ j l. elim (split j 0) [
+          | inl z ↦ let z′ : j ≡ 0 = omega arith in rw z′ (rw (first-block, zero-mul, sub-zero) (sym (only-same 0 c)))
+          | inr z ↦ rw (other-block j z l) (rw (blocks-null W b h (n - j * span W h)) (sym (only-other j 0 c (λ e. omega arith))))
         ]),
       )
 
@@ -111,37 +111,37 @@ module _ (W : ℕ) (fresh : ℕ → ℕ) where
 
 module _ (W : ℕ) (pos : 0 < W) (b b′ : List ℕ) (top : ℕ) (fresh : ℕ → ℕ) (lim : ℕ) (nonzero : (i : ℕ) → i < lim → 0 < fresh i) (below : (i : ℕ) → i < lim → fresh i < top) where
   -- d blocks over block k, one after the other
-  grown-over : (h k n d : ℕ) → d ≤ lim → held W fresh b′ (tabulate d (λ i. levelPage W (levelBelow fresh k i))) 0 → agree W b b′ h k n
+  grown-over : (h k n d : ℕ) → 0 < n → d ≤ lim → held W fresh b′ (tabulate d (λ i. levelPage W (levelBelow fresh k i))) 0 → agree W b b′ h k n
       → Grown W b b′ top h k (h + d) (levelBelow fresh k d) n (λ q. used fresh q 0 d)
-  unfolding tabulate levelBelow held
-  grown-over h k n zero le g a = rw (add-zero h) (record {
+  unfolding tabulate levelBelow held used sum
+  grown-over h k n zero live le g a = rw (add-zero h) (record {
     bytes = λ i. sym (agree-span-byte W pos b b′ h k n i a);
     walks = λ i l. sym (agree-walk W pos b b′ h k n i l a);
     counts = λ q. omega (arith, ap (occ q) (agree-blocks W pos b b′ h k n a));
     fine = λ t. rw (agree-sound W pos b b′ top h k n a) at t;
   })
-  grown-over h k n (suc d) le g a =
+  grown-over h k n (suc d) live le g a =
       let f : ℕ → Page = λ i. levelPage W (levelBelow fresh k i) in
-      let old : Grown W b b′ top h k (h + d) (levelBelow fresh k d) n (λ q. used fresh q 0 d) = grown-over h k n d (omega arith) (held-left W pos b fresh b′ (tabulate d f) (f d ∷ []) 0 g) a in
+      let old : Grown W b b′ top h k (h + d) (levelBelow fresh k d) n (λ q. used fresh q 0 d) = grown-over h k n d live (omega arith) (held-left W pos b fresh b′ (tabulate d f) (f d ∷ []) 0 g) a in
       let page : (j : ℕ) → j < W → cell W b′ (fresh d) j ≡ f d j = last-level W fresh pos b′ d f g in
       let there : 0 < fresh d = nonzero d (omega arith) in
       rw (add-suc h d) (record {
         bytes = λ i. grow-byte W pos b′ (h + d) (levelBelow fresh k d) (fresh d) n there page i ∙ old .bytes i;
         walks = λ i l. grow-walk W pos b′ (h + d) (levelBelow fresh k d) (fresh d) n there page i (omega (arith, span-mono W pos h (h + d) (omega arith))) ∙ old .walks i l;
-        counts = λ q. omega (arith, grow-occ W pos b′ (h + d) (levelBelow fresh k d) (fresh d) n there page q, old .counts q, used-next fresh q d);
+        counts = λ q. omega (arith, grow-occ W pos b′ (h + d) (levelBelow fresh k d) (fresh d) n there page live q, old .counts q, used-next fresh q d);
         fine = λ t. grow-sound W pos b′ (h + d) (levelBelow fresh k d) (fresh d) n there page top (below d (omega arith)) (old .fine t);
       })
 
   -- the levels of a plan: over a null tree there are none, and it stays null
-  pub grown : (h k n d : ℕ) → length (levels W fresh k d) ≤ lim → held W fresh b′ (levels W fresh k d) 0 → agree W b b′ h k n
+  pub grown : (h k n d : ℕ) → 0 < n → length (levels W fresh k d) ≤ lim → held W fresh b′ (levels W fresh k d) 0 → agree W b b′ h k n
       → Grown W b b′ top h k (h + d) (levelTop fresh k d) n (λ q. used fresh q 0 (length (levels W fresh k d)))
-  unfolding levels levelTop occ
-  grown h zero n d le g a = record {
+  unfolding levels levelTop occ used sum
+  grown h zero n d live le g a = record {
     bytes = λ i. span-byte-null W b′ (h + d) n i ∙ sym (span-byte-null W b h n i);
     walks = λ i l. walk-null W b′ (h + d) n i ∙ sym (walk-null W b h n i);
-    counts = λ q. rw (blocks-null W b′ (h + d) n, occ) (omega arith);
+    counts = λ q. omega (arith, ap (occ q) (blocks-null W b′ (h + d) n), ap (occ q) (blocks-null W b h n));
     fine = λ t. rw (sound-null W b′ top (h + d) n) tt;
   }
-  grown h (suc k) n d le g a =
+  grown h (suc k) n d live le g a =
       let len : length (levels W fresh (suc k) d) ≡ d = length-levels W fresh (suc k) d (omega arith) in
-      rw len (grown-over h (suc k) n d (omega arith) g a)
+      rw len (grown-over h (suc k) n d live (omega arith) g a)

@@ -194,9 +194,9 @@ module _ (g : Layout) (fit : Fits g) (b : List ℕ) (t : T (accepted g b)) (f : 
     tree-grown =
         let reached : root g b f % g .words + (h - root g b f % g .words) ≡ h = omega (arith, higher) in
         rw block-done (subst (λ (x : ℕ). Grown (g .words) b done (blockCount g b - 1) (root g b f % g .words) (root g b f / g .words) x top (size g b f) (λ q. used fresh q 0 (length ps))) reached
-        (grown (g .words) pos b done (blockCount g b - 1) fresh lim (supply .nonzero) (supply .below) (root g b f % g .words) (root g b f / g .words) (size g b f) (h - root g b f % g .words) (omega (arith, fits)) held-done tree-stays))
+        (grown (g .words) pos b done (blockCount g b - 1) fresh lim (supply .nonzero) (supply .below) (root g b f % g .words) (root g b f / g .words) (size g b f) (h - root g b f % g .words) some (omega (arith, fits)) held-done tree-stays))
 
-    file-grown : FileCommit g b done f (contents g b f) (λ q. used fresh q 0 (length ps))
+    file-grown : FileCommit g b done f (contents g b f) (λ q. used fresh q 0 (length ps)) (λ q. 0)
     file-grown = grown-commit g fit b done len f h (λ q. used fresh q 0 (length ps)) some size-done height-done low-enough tree-grown (accepted-parts g b t .files-sound f f-lt)
 
     met-once : (q : ℕ) → occ q (liveBlocks g b) + used fresh q 0 (length ps) ≤ 1
@@ -208,7 +208,7 @@ module _ (g : Layout) (fit : Fits g) (b : List ℕ) (t : T (accepted g b)) (f : 
       hides = pages-hidden g fit b t fresh 0 lim supply ps fits;
       once = pages-once g fit b t fresh 0 lim supply ps fits;
       within = spot-ranged g fit b ok f f-lt (rootAddress g b f) lent-spot;
-      outcome = spot-commit g fit b c₁ t shown-same f f-lt (rootAddress g b f) value commit-spot (contents g b f) (λ q. used fresh q 0 (length ps)) file-grown met-once;
+      outcome = spot-commit g fit b c₁ t shown-same f f-lt (rootAddress g b f) value commit-spot (contents g b f) (λ q. used fresh q 0 (length ps)) (λ q. 0) file-grown met-once;
     }
 
     -- ---- The grown board
@@ -254,12 +254,12 @@ module _ (g : Layout) (fit : Fits g) (b : List ℕ) (t : T (accepted g b)) (f : 
         let wider : i < span (g .words) h = omega (arith, span-mono (g .words) pos (root g b f % g .words) h higher) in
         rw (height-done, ← size-done, lt-ltb i (span (g .words) h) wider, lt-ltb i (span (g .words) (root g b f % g .words)) l) (tree-grown .walks i l)
 
-    -- the live blocks are those of b and at most those of the levels
-    counts-done : (q : ℕ) → occ q (liveBlocks g done) ≤ occ q (liveBlocks g b) + used fresh q 0 (length ps)
+    -- the live blocks are those of b and those of the levels
+    counts-done : (q : ℕ) → occ q (liveBlocks g done) ≡ occ q (liveBlocks g b) + used fresh q 0 (length ps)
     unfolding done
-    counts-done = spot-counts g fit b c₁ t shown-same f f-lt (rootAddress g b f) value commit-spot (contents g b f) (λ q. used fresh q 0 (length ps)) file-grown met-once
+    counts-done q = omega (arith, spot-counts g fit b c₁ t shown-same f f-lt (rootAddress g b f) value commit-spot (contents g b f) (λ q. used fresh q 0 (length ps)) (λ q. 0) file-grown met-once q)
 
-    pub growth-counts : (q : ℕ) → occ q (liveBlocks g (committed b (growthStep g fresh b f h))) ≤ occ q (liveBlocks g b) + used fresh q 0 (growthTo g fresh b f h .taken)
+    pub growth-counts : (q : ℕ) → occ q (liveBlocks g (committed b (growthStep g fresh b f h))) ≡ occ q (liveBlocks g b) + used fresh q 0 (growthTo g fresh b f h .taken)
     unfolding step store committed done c₁ value growthTo plan
     growth-counts = counts-done
 

@@ -17,6 +17,7 @@ use Rattle.model.specs.Store.{Store, store, performed}
 use Rattle.model.specs.Plan.{step}
 use Rattle.model.specs.Fresh.{stored}
 use Rattle.model.specs.Change.{splicedWord, Shadow, descend}
+use Rattle.model.specs.GivenUp.{insideBlocks}
 use Rattle.model.proofs.Cases.{decide}
 use Rattle.model.proofs.Counting.{occ}
 use Rattle.model.proofs.Perform.{All, address-block}
@@ -26,12 +27,12 @@ use Rattle.model.proofs.Descent.{Replaced, walk-inside, word-changed, C
 use Rattle.model.proofs.Shown.{Same, words-pos, leaf-of, file-live, same-address, root-block}
 use Rattle.model.proofs.Accepting.{Facts, facts, address-on-board}
 use Rattle.model.proofs.Visible.{same-refl}
-use Rattle.model.proofs.Commits.{Written, spliced, written-commit}
+use Rattle.model.proofs.Commits.{FileCommit, Written, spliced, written-commit}
 use Rattle.model.proofs.Apart.{Spot, spot-ranged, spot-live, spot-root, spot-size, stored-root, leaf-not-file, tree-not-inode-of}
-use Rattle.model.proofs.Committing.{facts-same, spot-same, spot-commit}
+use Rattle.model.proofs.Committing.{facts-same, spot-same, spot-commit, spot-counts}
 use Rattle.model.proofs.Supplied.{Supply, supply-once, stored-keeps}
 use Rattle.model.proofs.Steps.{committed}
-use Rattle.model.proofs.GoodSteps.{GoodStep, pages-hidden, pages-once, pages-same, pages-held}
+use Rattle.model.proofs.GoodSteps.{GoodTurn, pages-hidden, pages-once, pages-same, pages-held}
 
 module _ (g : Layout) (fit : Fits g) (b : List ℕ) (t : T (accepted g b)) (f : ℕ) (f-lt : f < files g) (o : ℕ) (new : List ℕ) (some : 0 < length new) (small : Small new)
     (within : o + length new ≤ size g b f) (under : o + length new ≤ span (g .words) (root g b f % g .words)) where
@@ -87,7 +88,7 @@ module _ (g : Layout) (fit : Fits g) (b : List ℕ) (t : T (accepted g b)) (f : 
     unfolding fileBlocks rootBlocks cell
     replaced = record { once = tree-once; same = λ q l i u d. sym (getD-set-other b a (g .words * q + i) v 0 d) }
 
-    written : Written g fit b b₂ (sym (length-set b a v)) f (root g b f % g .words) (root g b f / g .words) o (size g b f) new (λ q. 0)
+    written : Written g fit b b₂ (sym (length-set b a v)) f (root g b f % g .words) (root g b f / g .words) o (size g b f) new (λ q. 0) (λ q. 0)
     written = record {
       old = λ live. (refl, refl);
       height = ap (λ (x : ℕ). x % g .words) (sym root-stays);
@@ -102,15 +103,19 @@ module _ (g : Layout) (fit : Fits g) (b : List ℕ) (t : T (accepted g b)) (f : 
     pub single-live : 0 < occ (a / g .words) (liveBlocks g b)
     single-live = spot-live g fit b ok f f-lt a spot
 
-    pub single-good : GoodStep g b f (step [] a v) (spliced g b f o new (size g b f))
+    single-file : FileCommit g b b₂ f (spliced g b f o new (size g b f)) (λ q. 0) (λ q. 0)
+    single-file = written-commit g fit b b₂ (sym (length-set b a v)) f (root g b f % g .words) (root g b f / g .words) o (size g b f) new (λ q. 0) (λ q. 0) written (ok .tree f f-lt)
+
+    pub single-good : GoodTurn g b f (step [] a v) (spliced g b f o new (size g b f)) (λ q. 0) (λ q. 0)
     unfolding step store committed performed All occ
     single-good = record {
-      hides = tt;
-      once = λ x. omega arith;
-      within = spot-ranged g fit b ok f f-lt a spot;
-      outcome = spot-commit g fit b b t same f f-lt a v spot (spliced g b f o new (size g b f)) (λ q. 0)
-          (written-commit g fit b b₂ (sym (length-set b a v)) f (root g b f % g .words) (root g b f / g .words) o (size g b f) new (λ q. 0) written (ok .tree f f-lt))
-          (λ q. omega (arith, ok .once q));
+      good = record {
+        hides = tt;
+        once = λ x. omega arith;
+        within = spot-ranged g fit b ok f f-lt a spot;
+        outcome = spot-commit g fit b b t same f f-lt a v spot (spliced g b f o new (size g b f)) (λ q. 0) (λ q. 0) single-file (λ q. omega (arith, ok .once q));
+      };
+      lives = spot-counts g fit b b t same f f-lt a v spot (spliced g b f o new (size g b f)) (λ q. 0) (λ q. 0) single-file (λ q. omega (arith, ok .once q));
     }
 
   -- ---- Shadow inside the file
@@ -210,7 +215,7 @@ module _ (g : Layout) (fit : Fits g) (b : List ℕ) (t : T (accepted g b)) (f : 
         | inr z ↦ z
       ]
 
-      ready : Committed (g .words) fresh b done c lim sh (root g b f % g .words) (root g b f / g .words) (size g b f) o (rootAddress g b f)
+      ready : Committed (g .words) fresh b done c lim (length new) sh (root g b f % g .words) (root g b f / g .words) (size g b f) o (rootAddress g b f)
       unfolding fileBlocks rootBlocks done c₁
       ready = record {
         replaced = record { once = tree-once; same = words-stay };
@@ -223,7 +228,11 @@ module _ (g : Layout) (fit : Fits g) (b : List ℕ) (t : T (accepted g b)) (f : 
         low = λ d. ap (λ (x : ℕ). x % g .words) commits ∙ committed-low ∙ low-zero d;
       }
 
-      inside-written : Written g fit b done len f (root g b f % g .words) (root g b f / g .words) o (size g b f) new (λ q. used fresh q c (length (sh .pages)))
+      -- the blocks under the commit that are written anew
+      abbrev given : List ℕ
+      given = insideBlocks (g .words) b (root g b f % g .words) (root g b f / g .words) (size g b f) o (length new)
+
+      inside-written : Written g fit b done len f (root g b f % g .words) (root g b f / g .words) o (size g b f) new (λ q. used fresh q c (length (sh .pages))) (λ q. occ q given)
       inside-written = record {
         old = λ live. (refl, refl);
         height = root-low;
@@ -237,13 +246,19 @@ module _ (g : Layout) (fit : Fits g) (b : List ℕ) (t : T (accepted g b)) (f : 
             (λ d. ap (λ (x : ℕ). x / g .words) (sym (root-else d)));
       }
 
-      pub inside-good : GoodStep g b f (step ss (sh .at) (g .words * top + low)) (spliced g b f o new (size g b f))
+      inside-file : FileCommit g b done f (spliced g b f o new (size g b f)) (λ q. used fresh q c (length (sh .pages))) (λ q. occ q given)
+      inside-file = written-commit g fit b done len f (root g b f % g .words) (root g b f / g .words) o (size g b f) new (λ q. used fresh q c (length (sh .pages))) (λ q. occ q given) inside-written (ok .tree f f-lt)
+
+      pub inside-good : GoodTurn g b f (step ss (sh .at) (g .words * top + low)) (spliced g b f o new (size g b f)) (λ q. used fresh q c (length (sh .pages))) (λ q. occ q given)
       unfolding step store committed done c₁ value
-      inside-good = record {
-        hides = pages-hidden g fit b t fresh c lim supply (sh .pages) room;
-        once = pages-once g fit b t fresh c lim supply (sh .pages) room;
-        within = spot-ranged g fit b ok f f-lt (sh .at) lent-spot;
-        outcome = spot-commit g fit b c₁ t shown-same f f-lt (sh .at) value commit-spot (spliced g b f o new (size g b f)) (λ q. used fresh q c (length (sh .pages)))
-            (written-commit g fit b done len f (root g b f % g .words) (root g b f / g .words) o (size g b f) new (λ q. used fresh q c (length (sh .pages))) inside-written (ok .tree f f-lt))
-            (supply-once g b fresh c lim supply (ok .once) (length (sh .pages)) room);
-      }
+      inside-good =
+          let once : (q : ℕ) → occ q (liveBlocks g b) + used fresh q c (length (sh .pages)) ≤ 1 = supply-once g b fresh c lim supply (ok .once) (length (sh .pages)) room in
+          record {
+            good = record {
+              hides = pages-hidden g fit b t fresh c lim supply (sh .pages) room;
+              once = pages-once g fit b t fresh c lim supply (sh .pages) room;
+              within = spot-ranged g fit b ok f f-lt (sh .at) lent-spot;
+              outcome = spot-commit g fit b c₁ t shown-same f f-lt (sh .at) value commit-spot (spliced g b f o new (size g b f)) (λ q. used fresh q c (length (sh .pages))) (λ q. occ q given) inside-file once;
+            };
+            lives = spot-counts g fit b c₁ t shown-same f f-lt (sh .at) value commit-spot (spliced g b f o new (size g b f)) (λ q. used fresh q c (length (sh .pages))) (λ q. occ q given) inside-file once;
+          }

@@ -21,16 +21,17 @@ use Rattle.model.proofs.Counting.{one, occ}
 use Rattle.model.proofs.Perform.{All, address-block}
 use Rattle.model.proofs.Agree.{agree, frame, cell-away}
 use Rattle.model.proofs.Splice.{Small, Reach, past-span}
+use Rattle.model.specs.GivenUp.{pathBlocks}
 use Rattle.model.proofs.Paths.{touched-new}
 use Rattle.model.proofs.Changed.{Changed}
 use Rattle.model.proofs.Built.{held, used, used-add, used-one, length-build, held-left, held-right, build-changed}
 use Rattle.model.proofs.Shown.{Same, words-pos, count-kept, inode-kept, trailer-kept, leaf-kept, leaf-sound-kept, inode-live, leaf-live, file-live, leaf-of, slot}
 use Rattle.model.proofs.Accepting.{Ranged, in-range, accepted-parts, Facts, facts, address-on-board}
-use Rattle.model.proofs.Commits.{Written, spliced, written-commit, Others, Outcome, one-file}
+use Rattle.model.proofs.Commits.{Written, spliced, written-commit, Others, one-file, OneFile, one-file-counts}
 use Rattle.model.proofs.Apart.{inode-not-leaf, file-not-inode, inodes-apart}
 use Rattle.model.proofs.Supplied.{Supply, supply-once, stored-keeps}
 use Rattle.model.proofs.Steps.{committed}
-use Rattle.model.proofs.GoodSteps.{GoodStep, pages-hidden, pages-once, pages-same, pages-held}
+use Rattle.model.proofs.GoodSteps.{GoodTurn, pages-hidden, pages-once, pages-same, pages-held}
 use Rattle.model.proofs.Taking.{Takes}
 
 -- ---- The step
@@ -258,15 +259,19 @@ module _ (g : Layout) (fit : Fits g) (b : List ℕ) (t : T (accepted g b)) (f : 
   reach : Reach (size g b f) m o (length new) (span (g .words) (root g b f % g .words))
   reach i u v w = omega arith
 
-  changed : Changed (g .words) b b₂ (blockCount g b - 1) (root g b f % g .words) (root g b f / g .words) (root g b₂ f / g .words) (size g b f) m o new (λ q. used fresh q c (length ps))
+  -- the blocks on the paths that are made fresh
+  abbrev path : List ℕ
+  path = pathBlocks (g .words) b (root g b f % g .words) (root g b f / g .words) (size g b f) o (length new)
+
+  changed : Changed (g .words) b b₂ (blockCount g b - 1) (root g b f % g .words) (root g b f / g .words) (root g b₂ f / g .words) (size g b f) m o new (λ q. used fresh q c (length ps)) (λ q. occ q path)
   changed =
       let count : freshNeed (g .words) b (root g b f % g .words) (root g b f / g .words) (size g b f) o (length new) ≡ length ps = sym (length-build (g .words) pos b fresh (root g b f % g .words) (root g b f / g .words) (size g b f) o new c) in
       rw block-new (subst
-      (λ (x : ℕ). Changed (g .words) b b₂ (blockCount g b - 1) (root g b f % g .words) (root g b f / g .words) (fresh (c + x - 1)) (size g b f) m o new (λ q. used fresh q c x)) count
+      (λ (x : ℕ). Changed (g .words) b b₂ (blockCount g b - 1) (root g b f % g .words) (root g b f / g .words) (fresh (c + x - 1)) (size g b f) m o new (λ q. used fresh q c x) (λ q. occ q path)) count
       (build-changed (g .words) pos b fresh b₂ lim (supply .nonzero) (blockCount g b - 1) (supply .below) (root g b f % g .words) (root g b f / g .words) (size g b f) o new c m
-      (touched-new (g .words) (root g b f % g .words) (root g b f / g .words) (size g b f) o (length new) some) (omega (arith, count)) small tree-held (tree-stays f f-lt) (omega arith) reach))
+      (touched-new (g .words) (root g b f % g .words) (root g b f / g .words) (size g b f) o (length new) some) (omega (arith, count)) small tree-held (tree-stays f f-lt) (omega arith) (omega arith) (λ u. omega arith) reach))
 
-  written : Written g fit b b₂ len f (root g b f % g .words) (root g b f / g .words) o m new (λ q. used fresh q c (length ps))
+  written : Written g fit b b₂ len f (root g b f % g .words) (root g b f / g .words) o m new (λ q. used fresh q c (length ps)) (λ q. occ q path)
   written = record {
     old = λ z. (refl, refl);
     height = height-new;
@@ -277,28 +282,39 @@ module _ (g : Layout) (fit : Fits g) (b : List ℕ) (t : T (accepted g b)) (f : 
     change = changed;
   }
 
-  outcome : Outcome g b b₂ f (spliced g b f o new m)
-  outcome = one-file g fit b b₂ f (spliced g b f o new m) (λ q. one q copied) (λ q. used fresh q c (length ps))
-      (record {
-        lengths = len;
-        trailers = rw (← (trailer-kept g b b₂ len fit trailers)) (accepted-parts g b t .trailers);
-        inode = inode;
-        leaves = leaves-sound;
-        leaves-stay = leaf-stays;
-        leaf-moved = λ q. omega (arith, ap (one q) leaf-new);
-        others = others;
-        file = written-commit g fit b b₂ len f (root g b f % g .words) (root g b f / g .words) o m new (λ q. used fresh q c (length ps)) written (ok .tree f f-lt);
-        spare = λ q. omega (arith, supply-once g b fresh c lim supply (ok .once) (length ps + 1) (omega arith) q, used-add fresh q c (length ps) 1, used-one fresh q (c + length ps));
-      })
-      t
+  moved : OneFile g b b₂ f (spliced g b f o new m) (λ q. one q copied) (λ q. one q (leaf g b l₀)) (λ q. used fresh q c (length ps)) (λ q. occ q path)
+  moved = record {
+    lengths = len;
+    trailers = rw (← (trailer-kept g b b₂ len fit trailers)) (accepted-parts g b t .trailers);
+    inode = inode;
+    leaves = leaves-sound;
+    leaves-stay = leaf-stays;
+    leaf-moved = λ q. omega (arith, ap (one q) leaf-new);
+    others = others;
+    file = written-commit g fit b b₂ len f (root g b f % g .words) (root g b f / g .words) o m new (λ q. used fresh q c (length ps)) (λ q. occ q path) written (ok .tree f f-lt);
+    spare = λ q. omega (arith, supply-once g b fresh c lim supply (ok .once) (length ps + 1) (omega arith) q, used-add fresh q c (length ps) 1, used-one fresh q (c + length ps));
+  }
 
-  pub leaf-good : GoodStep g b f (leafStep g fresh b f o new c) (spliced g b f o new (max (size g b f) (o + length new)))
+  leaf-lives : (q : ℕ) → occ q (liveBlocks g b₂) + occ q (leaf g b l₀ ∷ path) ≡ occ q (liveBlocks g b) + used fresh q c (length ps + 1)
+  unfolding occ
+  leaf-lives q = omega (
+    arith,
+    one-file-counts g fit b b₂ f (spliced g b f o new m) (λ q. one q copied) (λ q. one q (leaf g b l₀)) (λ q. used fresh q c (length ps)) (λ q. occ q path) moved t f-lt q,
+    used-add fresh q c (length ps) 1,
+    used-one fresh q (c + length ps),
+  )
+
+  pub leaf-good : GoodTurn g b f (leafStep g fresh b f o new c) (spliced g b f o new (max (size g b f) (o + length new))) (λ q. used fresh q c (length (treePages g fresh b f o new c) + 1))
+      (λ q. occ q (leaf g b (f / g .inodes) ∷ pathBlocks (g .words) b (root g b f % g .words) (root g b f / g .words) (size g b f) o (length new)))
   unfolding step store committed b₂ c₁
   leaf-good = record {
-    hides = pages-hidden g fit b t fresh c lim supply pages pages-room;
-    once = pages-once g fit b t fresh c lim supply pages pages-room;
-    within = rw commit-block (ok .inode);
-    outcome = outcome;
+    good = record {
+      hides = pages-hidden g fit b t fresh c lim supply pages pages-room;
+      once = pages-once g fit b t fresh c lim supply pages pages-room;
+      within = rw commit-block (ok .inode);
+      outcome = one-file g fit b b₂ f (spliced g b f o new m) (λ q. one q copied) (λ q. one q (leaf g b l₀)) (λ q. used fresh q c (length ps)) (λ q. occ q path) moved t;
+    };
+    lives = leaf-lives;
   }
 
   -- ---- The board that it leaves

@@ -17,6 +17,7 @@ pub mod Walks
 pub mod Agree
 pub mod Splice
 pub mod Paths
+pub mod GivenUp
 pub mod Changed
 pub mod Built
 pub mod PastTree

@@ -178,7 +178,7 @@ module _ (g : Layout) (fit : Fits g) (b : List ℕ) (t : T (accepted g b)) (f : 
   module _ (new : List ℕ) (some : 0 < length new) (small : Small new) (most : o + length new ≤ greatest g) where
     -- growth p, then the way that follows
     abbrev whole : Plan → Plan
-    whole p = after g fit b t f f-lt o new some small most p
+    whole p = after g fit b t f f-lt o fresh lim (supply-lowest g b) new some small most p
 
     abbrev Wanted : Plan → Type 0
     Wanted p = whole p .taken ≤ lim → PastEnd g b (allCommitted b (whole p .steps)) f o (length new) (drop (p .taken) (take (whole p .taken) (free g b)))
@@ -236,7 +236,7 @@ past-end-rule g fit b t f o new slice more past =
       | inl d ↦
           let ok = write-passed g b f o (new .values) q (d .passed) in
           let small : Small (new .values) = bytes-small (new .values) (new .small) in
-          let good = write-good g fit b t f (ok .0) o (new .values) small (ok .1) (ok .2) in
+          let good = write-good g fit b t f (ok .0) o (lowest g b) (length (free g b)) (supply-lowest g b) (new .values) small (ok .1) (ok .2) in
           let whole : performed b (stores (pairs q)) ≡ allCommitted b (q .steps) =
           ap (performed b) (plan-stores g fit b t f (q .steps) (overwritten o (new .values) (contents g b f)) (good .steps-good)) ∙ performed-steps b (q .steps) in
           rw (d .plans, whole) (plan-past g fit b t f (ok .0) o past (new .values) small (ok .1) (rw (d .plans) at more) (ok .2))

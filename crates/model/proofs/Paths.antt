@@ -117,3 +117,8 @@ module _ (W : ℕ) where
   pub fresh-quiet : (b : List ℕ) (h k n o l : ℕ) → Quiet k n o → freshNeed W b h k n o l ≡ need W h o l
   unfolding need
   fresh-quiet b h k n o l q = quiet-alike b [] h k n 0 0 o l q (inl refl)
+
+  -- none where nothing is written
+  pub need-none : (h o : ℕ) → need W h o 0 ≡ 0
+  unfolding need
+  need-none h o = fresh-none [] h 0 0 o 0 (untouched-null h 0 0 o 0 refl refl)

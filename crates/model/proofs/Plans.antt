@@ -12,13 +12,13 @@ use borrow.Author.Tests.{lt-ltb, le-ltb, eq-eqb, ne-eqb}
 use Rattle.model.specs.Lists.{concat, sum}
 use Rattle.model.specs.Layout.{Layout, Fits, files}
 use Rattle.model.specs.Tree.{span, least}
-use Rattle.model.specs.Board.{greatest, rootAddress, sizeAddress, root, size, contents, liveBlocks, free, accepted}
+use Rattle.model.specs.Board.{greatest, rootAddress, sizeAddress, root, size, contents, liveBlocks, accepted}
 use Rattle.model.specs.Store.{Store, store, performed}
 use Rattle.model.specs.Plan.{Plan, plan, Step, step, planEpochs, afterwards}
 use Rattle.model.specs.Fresh.{stored}
 use Rattle.model.specs.InPlace.{inPlace}
 use Rattle.model.specs.Change.{growthTo, growth, singleBlock, chosenWay, writePlan, cleared, lengthPlan}
-use Rattle.model.specs.Calls.{lowest}
+use Rattle.model.specs.GivenUp.{wayGives, lengthGives, writeGives}
 use Rattle.model.specs.Cut.{overwritten}
 use Rattle.model.proofs.Cases.{split, decide}
 use Rattle.model.proofs.Counting.{occ}
@@ -26,9 +26,9 @@ use Rattle.model.proofs.Perform.{All}
 use Rattle.model.proofs.Splice.{Small}
 use Rattle.model.proofs.Built.{used, used-add}
 use Rattle.model.proofs.Shown.{words-pos, leaf-of, leaf-live, root-block, size-block}
-use Rattle.model.proofs.Supplied.{Supply, supply-lowest}
-use Rattle.model.proofs.Steps.{committed}
-use Rattle.model.proofs.GoodSteps.{GoodStep, GoodSteps}
+use Rattle.model.proofs.Supplied.{Supply}
+use Rattle.model.proofs.Steps.{committed, allCommitted}
+use Rattle.model.proofs.GoodSteps.{GoodStep, GoodTurn, GoodSteps}
 use Rattle.model.proofs.Taking.{Takes, blocksOf, takes-blocks, steps-blocks, in-place-live}
 use Rattle.model.proofs.SizeWays.{shorten-good, lengthen-empty-good, lengthen-good}
 use Rattle.model.proofs.GrowthWay.{growthStep, growth-performed, growth-takes, growth-counts, growth-either, growth-good, growth-size, growth-reaches, growth-supply}
@@ -36,46 +36,52 @@ use Rattle.model.proofs.Ways.{length-contents, lengthened, spliced-cuts
 
 -- ---- Good plans
 
--- Its steps are good, and of the blocks that are not live it stores to those that it takes, the first of the fresh ones, and to no other
-pub record GoodPlan (g : Layout) (b : List ℕ) (f : ℕ) (wanted : List ℕ) (p : Plan) : Type 0 where
+-- Its steps are good; of the blocks that are not live it stores to those that it takes, the first of the fresh ones, and to no other; and the live blocks
+-- are those before and those taken, less those given up
+pub record GoodPlan (g : Layout) (b : List ℕ) (f : ℕ) (fresh : ℕ → ℕ) (wanted given : List ℕ) (p : Plan) : Type 0 where
   pub steps-good : GoodSteps g b f (p .steps) wanted
-  pub takes : (q : ℕ) → occ q (liveBlocks g b) ≡ 0 → (0 < occ q (blocksOf g (concat (planEpochs (p .steps))))) ↔ (0 < used (lowest g b) q 0 (p .taken))
+  pub takes : (q : ℕ) → occ q (liveBlocks g b) ≡ 0 → (0 < occ q (blocksOf g (concat (planEpochs (p .steps))))) ↔ (0 < used fresh q 0 (p .taken))
+  pub lives : (q : ℕ) → occ q (liveBlocks g (allCommitted b (p .steps))) + occ q given ≡ occ q (liveBlocks g b) + used fresh q 0 (p .taken)
 
 some-of-product : (w a u : ℕ) → 0 < w → a ≡ w * u → (0 < a) ↔ (0 < u)
 some-of-product w a u pos e = (λ l. elim (split u 0) [ inl z ↦ let z′ : u ≡ 0 = omega arith in absurd (omega (arith, rw z′ at e, mul-zero w)) | inr k ↦ k ], λ l. rw e (mul-pos pos l))
 
-module _ (g : Layout) (fit : Fits g) (b : List ℕ) (f : ℕ) (wanted : List ℕ) where
+module _ (g : Layout) (fit : Fits g) (b : List ℕ) (f : ℕ) (wanted given : List ℕ) where
   -- how often one step stores to a block that is not live
-  one-blocks : (fresh : ℕ → ℕ) (c : ℕ) (p : Plan) → OneStep g b f fresh c wanted p → (q : ℕ) → occ q (liveBlocks g b) ≡ 0
+  one-blocks : (fresh : ℕ → ℕ) (c : ℕ) (p : Plan) → OneStep g b f fresh c wanted given p → (q : ℕ) → occ q (liveBlocks g b) ≡ 0
       → occ q (blocksOf g (concat (planEpochs (p .steps)))) ≡ g .words * used fresh q c (p .taken - c)
   unfolding planEpochs concat occ
   one-blocks fresh c p w q z = rw (w .steps-are) (omega (arith, steps-blocks g (words-pos g fit) fresh q (w .only) [], takes-blocks g (words-pos g fit) fresh q b c (p .taken) (w .only) (w .takes) z))
 
-module _ (g : Layout) (fit : Fits g) (b : List ℕ) (f : ℕ) (wanted : List ℕ) where
+module _ (g : Layout) (fit : Fits g) (b : List ℕ) (f : ℕ) (fresh : ℕ → ℕ) (wanted : List ℕ) where
   pos : 0 < g .words
   pos = words-pos g fit
 
   -- an empty plan
-  none-good : contents g b f ≡ wanted → GoodPlan g b f wanted (plan [] 0)
-  unfolding plan GoodSteps planEpochs concat occ used sum
-  none-good e = record { steps-good = e; takes = λ q z. (λ l. l, λ l. l) }
+  none-good : contents g b f ≡ wanted → GoodPlan g b f fresh wanted [] (plan [] 0)
+  unfolding plan GoodSteps planEpochs concat occ used sum allCommitted
+  none-good e = record { steps-good = e; takes = λ q z. (λ l. l, λ l. l); lives = λ q. refl }
 
-  one-plan : (p : Plan) → OneStep g b f (lowest g b) 0 wanted p → GoodPlan g b f wanted p
-  unfolding GoodSteps
-  one-plan p w = record {
+  one-plan : (given : List ℕ) (p : Plan) → OneStep g b f fresh 0 wanted given p → GoodPlan g b f fresh wanted given p
+  unfolding GoodSteps allCommitted
+  one-plan given p w = record {
     steps-good = rw (w .steps-are) (w .good);
-    takes = λ q z. some-of-product (g .words) _ (used (lowest g b) q 0 (p .taken)) pos (rw sub-zero at (one-blocks g fit b f wanted (lowest g b) 0 p w q z));
+    takes = λ q z. some-of-product (g .words) _ (used fresh q 0 (p .taken)) pos (rw sub-zero at (one-blocks g fit b f wanted given fresh 0 p w q z));
+    lives = λ q. rw (w .steps-are) (rw sub-zero at (w .lives q));
   }
 
   -- a step that leaves the file as it reads and takes k blocks, and a plan of one step that takes the next
-  two-plan : (s : Step) (k : ℕ) → GoodStep g b f s (contents g b f) → Takes g b (lowest g b) 0 k s
-      → ((q : ℕ) → occ q (liveBlocks g (committed b s)) ≤ occ q (liveBlocks g b) + used (lowest g b) q 0 k)
-      → (p : Plan) → OneStep g (committed b s) f (lowest g b) k wanted p → k ≤ p .taken → GoodPlan g b f wanted (plan (s ∷ p .steps) (p .taken))
-  unfolding plan GoodSteps
-  two-plan s k first takes counts p w le = record {
+  two-plan : (s : Step) (k : ℕ) → GoodStep g b f s (contents g b f) → Takes g b fresh 0 k s
+      → ((q : ℕ) → occ q (liveBlocks g (committed b s)) ≡ occ q (liveBlocks g b) + used fresh q 0 k)
+      → (given : List ℕ) (p : Plan) → OneStep g (committed b s) f fresh k wanted given p → k ≤ p .taken → GoodPlan g b f fresh wanted given (plan (s ∷ p .steps) (p .taken))
+  unfolding plan GoodSteps allCommitted
+  two-plan s k first takes counts given p w le = record {
     steps-good = rw (w .steps-are) (first, w .good);
+    lives = λ q.
+        let total : used fresh q 0 (p .taken) ≡ used fresh q 0 k + used fresh q k (p .taken - k) =
+        ap (used fresh q 0) (omega arith) ∙ used-add fresh q 0 k (p .taken - k) ∙ ap (λ (x : ℕ). used fresh q 0 k + used fresh q x (p .taken - k)) (zero-add k) in
+        rw (w .steps-are) (omega (arith, w .lives q, counts q, total));
     takes = λ q z.
-        let fresh : ℕ → ℕ = lowest g b in
         let total : used fresh q 0 (p .taken) ≡ used fresh q 0 k + used fresh q k (p .taken - k) =
         ap (used fresh q 0) (omega arith) ∙ used-add fresh q 0 k (p .taken - k) ∙ ap (λ (x : ℕ). used fresh q 0 k + used fresh q x (p .taken - k)) (zero-add k) in
         let own : occ q (blocksOf g (s .hidden ++ (s .commit ∷ []))) ≡ g .words * used fresh q 0 k = rw sub-zero at (takes-blocks g pos fresh q b 0 k s takes z) in
@@ -86,7 +92,7 @@ module _ (g : Layout) (fit : Fits g) (b : List ℕ) (f : ℕ) (wanted : List ℕ
               let same : used fresh q 0 (p .taken) ≡ used fresh q k (p .taken - k) = omega (arith, total) in
               let none-own : occ q (blocksOf g (s .hidden ++ (s .commit ∷ []))) ≡ 0 = own ∙ rw (zero-own, mul-zero (g .words)) in
               some-of-product (g .words) _ (used fresh q 0 (p .taken)) pos
-              (rw same (omega (arith, both, none-own, one-blocks g fit (committed b s) f wanted fresh k p w q (omega (arith, counts q, z)))))
+              (rw same (omega (arith, both, none-own, one-blocks g fit (committed b s) f wanted given fresh k p w q (omega (arith, counts q, z)))))
           | inr more ↦ (λ l. omega (arith, total), λ l. omega (arith, both, own, mul-pos pos more))
         ];
   }
@@ -104,29 +110,31 @@ module _ (g : Layout) (b : List ℕ) (f n : ℕ) where
   cleared-live zero l = absurd (omega arith)
   cleared-live (suc s) l = refl
 
-module _ (g : Layout) (fit : Fits g) (b : List ℕ) (t : T (accepted g b)) (f : ℕ) (f-lt : f < files g) (n : ℕ) (most : n ≤ greatest g) where
+module _ (g : Layout) (fit : Fits g) (b : List ℕ) (t : T (accepted g b)) (f : ℕ) (f-lt : f < files g) (n : ℕ) (most : n ≤ greatest g) (fresh : ℕ → ℕ) where
   -- a step of stores to live blocks, committed by the size
-  sized-plan : (ss : List Store) → All (λ s. 0 < occ (s .at / g .words) (liveBlocks g b)) ss → GoodStep g b f (step ss (sizeAddress g b f) n) (lengthened g fit b f n)
-      → GoodPlan g b f (lengthened g fit b f n) (plan (step ss (sizeAddress g b f) n ∷ []) 0)
-  unfolding plan step store stored
-  sized-plan ss lives s = one-plan g fit b f (lengthened g fit b f n) (plan (step ss (sizeAddress g b f) n ∷ []) 0) (record {
+  sized-plan : (ss : List Store) (wanted given : List ℕ) → wanted ≡ lengthened g fit b f n → All (λ s. 0 < occ (s .at / g .words) (liveBlocks g b)) ss
+      → GoodTurn g b f (step ss (sizeAddress g b f) n) wanted (λ q. 0) (λ q. occ q given)
+      → GoodPlan g b f fresh (lengthened g fit b f n) given (plan (step ss (sizeAddress g b f) n ∷ []) 0)
+  unfolding plan step store stored used sum
+  sized-plan ss wanted given is lives s = one-plan g fit b f fresh (lengthened g fit b f n) given (plan (step ss (sizeAddress g b f) n ∷ []) 0) (record {
     only = step ss (sizeAddress g b f) n;
     steps-are = refl;
-    good = s;
+    good = rw is at (s .good);
+    lives = s .lives;
     takes = record { pages = []; others = ss; is = refl; count = refl; others-live = lives; commit-live = rw (size-block g fit b f) (leaf-live g b (f / g .inodes) (leaf-of g fit f f-lt)) };
   })
 
   -- n > s
-  lengthen-plan : size g b f ≤ n → GoodPlan g b f (lengthened g fit b f n) (plan (step (cleared g b f (size g b f) n) (sizeAddress g b f) n ∷ []) 0)
-  unfolding All store
+  lengthen-plan : size g b f ≤ n → GoodPlan g b f fresh (lengthened g fit b f n) [] (plan (step (cleared g b f (size g b f) n) (sizeAddress g b f) n ∷ []) 0)
+  unfolding All store occ
   lengthen-plan more = elim (split (size g b f) 0) [
     | inl z ↦
         let e : size g b f ≡ 0 = omega arith in
-        rw (cleared-empty g b f n (size g b f) e) (sized-plan _ (rw (root-block g fit b f) (leaf-live g b (f / g .inodes) (leaf-of g fit f f-lt)), tt)
-        (rw (spliced-lengthens g fit b f n more) at (lengthen-empty-good g fit b t f f-lt n e most)))
-    | inr l ↦ rw (cleared-live g b f n (size g b f) l) (sized-plan _
+        rw (cleared-empty g b f n (size g b f) e) (sized-plan _ _ [] (spliced-lengthens g fit b f n more) (rw (root-block g fit b f) (leaf-live g b (f / g .inodes) (leaf-of g fit f f-lt)), tt)
+        (lengthen-empty-good g fit b t f f-lt n e most))
+    | inr l ↦ rw (cleared-live g b f n (size g b f) l) (sized-plan _ _ [] (spliced-lengthens g fit b f n more)
         (in-place-live g b f f-lt (λ h k c. 0) (replicate (n - size g b f) 0) 0 l)
-        (rw (spliced-lengthens g fit b f n more) at (lengthen-good g fit b t f f-lt n l more most)))
+        (lengthen-good g fit b t f f-lt n l more most))
   ]
 
   nothing : n ≡ size g b f → contents g b f ≡ lengthened g fit b f n
@@ -134,25 +142,20 @@ module _ (g : Layout) (fit : Fits g) (b : List ℕ) (t : T (accepted g b)) (f : 
       let z : n - length (contents g b f) ≡ 0 = omega (arith, length-contents g fit b f) in
       rw z (sym (take-all n (contents g b f) (omega (arith, length-contents g fit b f))) ∙ sym (append-nil (take n (contents g b f))))
 
-  pub length-good : GoodPlan g b f (take n (contents g b f) ++ replicate (n - length (contents g b f)) 0) (lengthPlan g b f n)
-  unfolding lengthPlan All
+  pub length-good : GoodPlan g b f fresh (take n (contents g b f) ++ replicate (n - length (contents g b f)) 0) (lengthGives g b f n) (lengthPlan g b f n)
+  unfolding lengthPlan lengthGives All
   length-good = elim (decide n (size g b f)) [
-    | inl e ↦ rw (eq-eqb n (size g b f) e) (none-good g fit b f (lengthened g fit b f n) (nothing e))
+    | inl e ↦ rw (eq-eqb n (size g b f) e, le-ltb n (size g b f) (omega arith)) (none-good g fit b f fresh (lengthened g fit b f n) (nothing e))
     | inr d ↦ elim (split (size g b f) n) [
       | inl more ↦ rw (ne-eqb n (size g b f) d, le-ltb n (size g b f) more) (lengthen-plan more)
-      | inr less ↦ rw (ne-eqb n (size g b f) d, lt-ltb n (size g b f) less) (sized-plan [] tt (rw (spliced-cuts g fit b f n (omega arith)) at (shorten-good g fit b t f f-lt n (omega arith) (omega arith))))
+      | inr less ↦ rw (ne-eqb n (size g b f) d, lt-ltb n (size g b f) less) (sized-plan [] _ _ (spliced-cuts g fit b f n (omega arith)) tt (shorten-good g fit b t f f-lt n (omega arith) (omega arith)))
     ]
   ]
 
 -- ---- Write
 
-module _ (g : Layout) (fit : Fits g) (b : List ℕ) (t : T (accepted g b)) (f : ℕ) (f-lt : f < files g) (o : ℕ) where
-  abbrev fresh : ℕ → ℕ
-  fresh = lowest g b
-
-  abbrev lim : ℕ
-  lim = length (free g b)
-
+module _ (g : Layout) (fit : Fits g) (b : List ℕ) (t : T (accepted g b)) (f : ℕ) (f-lt : f < files g) (o : ℕ)
+    (fresh : ℕ → ℕ) (lim : ℕ) (supply : Supply g b fresh 0 lim) where
   module _ (new : List ℕ) (some : 0 < length new) (small : Small new) (most : o + length new ≤ greatest g) where
     -- growth p, then the way that follows on the grown board
     abbrev pub after : Plan → Plan
@@ -165,21 +168,29 @@ module _ (g : Layout) (fit : Fits g) (b : List ℕ) (t : T (accepted g b)) (f : 
     abbrev wanted : List ℕ
     wanted = overwritten o new (contents g b f)
 
-    abbrev Wanted : Plan → Type 0
-    Wanted p = p .taken ≤ lim → GoodPlan g b f wanted p
+    -- the blocks that the way on board c gives up
+    abbrev gives : List ℕ → List ℕ
+    gives c = wayGives g c f (singleBlock g c f o (o + length new)) o new
 
-    no-growth : (0 < size g b f → o + length new ≤ span (g .words) (root g b f % g .words)) → Wanted (after (plan [] 0))
+    abbrev Wanted : Plan → List ℕ → Type 0
+    Wanted p given = p .taken ≤ lim → GoodPlan g b f fresh wanted given p
+
+    -- the board that growth p leaves
+    abbrev grownBy : Plan → List ℕ
+    grownBy p = performed b (concat (planEpochs (p .steps)))
+
+    no-growth : (0 < size g b f → o + length new ≤ span (g .words) (root g b f % g .words)) → Wanted (after (plan [] 0)) (gives (grownBy (plan [] 0)))
     unfolding plan afterwards planEpochs concat performed
     no-growth reach room =
-        let w : OneStep g b f fresh 0 wanted (way b 0) = way-good g fit b t f f-lt o new some small most reach fresh 0 lim (supply-lowest g b) (singleBlock g b f o (o + length new)) refl room in
-        one-plan g fit b f wanted (way b 0) w
+        let w : OneStep g b f fresh 0 wanted (gives b) (way b 0) = way-good g fit b t f f-lt o new some small most reach fresh 0 lim supply (singleBlock g b f o (o + length new)) refl room in
+        one-plan g fit b f fresh wanted (gives b) (way b 0) w
 
     -- the way that follows, on a board c where the file reads the same
     follows : (c : List ℕ) → T (accepted g c) → size g c f ≡ size g b f → contents g c f ≡ contents g b f → o + length new ≤ span (g .words) (root g c f % g .words)
-        → (k : ℕ) → Supply g c fresh k lim → way c k .taken ≤ lim → OneStep g c f fresh k wanted (way c k)
+        → (k : ℕ) → Supply g c fresh k lim → way c k .taken ≤ lim → OneStep g c f fresh k wanted (gives c) (way c k)
     follows c u sizes reads reach k supply room = rw (← reads) (way-good g fit c u f f-lt o new some small most (λ l. reach) fresh k lim supply (singleBlock g c f o (o + length new)) refl room)
 
-    grows : 0 < size g b f → span (g .words) (root g b f % g .words) < o + length new → Wanted (after (growthTo g fresh b f (least (g .words) (g .height) (o + length new))))
+    grows : 0 < size g b f → span (g .words) (root g b f % g .words) < o + length new → Wanted (after (growthTo g fresh b f (least (g .words) (g .height) (o + length new)))) (gives (grownBy (growthTo g fresh b f (least (g .words) (g .height) (o + length new)))))
     unfolding growthTo plan afterwards
     grows l more room =
         let e : ℕ = o + length new in
@@ -187,21 +198,21 @@ module _ (g : Layout) (fit : Fits g) (b : List ℕ) (t : T (accepted g b)) (f : 
         let g-step : Step = growthStep g fresh b f (least (g .words) (g .height) e) in
         let grown : List ℕ = performed b (concat (planEpochs (p .steps))) in
         let enough : p .taken ≤ lim = omega (arith, room, taken-from g fresh grown f (singleBlock g grown f o e) o new (p .taken)) in
-        let first : GoodStep g b f g-step (contents g b f) = growth-good g fit b t f f-lt l fresh lim (supply-lowest g b) e most more enough in
-        let w : OneStep g (committed b g-step) f fresh (p .taken) wanted (way grown (p .taken)) =
-        subst (λ (y : List ℕ). way y (p .taken) .taken ≤ lim → OneStep g (committed b g-step) f fresh (p .taken) wanted (way y (p .taken)))
+        let first : GoodStep g b f g-step (contents g b f) = growth-good g fit b t f f-lt l fresh lim supply e most more enough in
+        let w : OneStep g (committed b g-step) f fresh (p .taken) wanted (gives grown) (way grown (p .taken)) =
+        subst (λ (y : List ℕ). way y (p .taken) .taken ≤ lim → OneStep g (committed b g-step) f fresh (p .taken) wanted (gives y) (way y (p .taken)))
         (sym (growth-performed g fresh b f (least (g .words) (g .height) e)))
-        (follows (committed b g-step) (first .outcome .board) (growth-size g fit b t f f-lt l fresh lim (supply-lowest g b) e most more enough) (first .outcome .reads)
-        (growth-reaches g fit b t f f-lt l fresh lim (supply-lowest g b) e most more enough) (p .taken) (growth-supply g fit b t f f-lt l fresh lim (supply-lowest g b) e most more enough))
+        (follows (committed b g-step) (first .outcome .board) (growth-size g fit b t f f-lt l fresh lim supply e most more enough) (first .outcome .reads)
+        (growth-reaches g fit b t f f-lt l fresh lim supply e most more enough) (p .taken) (growth-supply g fit b t f f-lt l fresh lim supply e most more enough))
         room in
-        two-plan g fit b f wanted g-step (p .taken) first (growth-takes g fit fresh b f (least (g .words) (g .height) e) f-lt)
-        (growth-counts g fit b t f f-lt l fresh lim (supply-lowest g b) e most more enough) (way grown (p .taken)) w (taken-from g fresh grown f (singleBlock g grown f o e) o new (p .taken))
+        two-plan g fit b f fresh wanted g-step (p .taken) first (growth-takes g fit fresh b f (least (g .words) (g .height) e) f-lt)
+        (growth-counts g fit b t f f-lt l fresh lim supply e most more enough) (gives grown) (way grown (p .taken)) w (taken-from g fresh grown f (singleBlock g grown f o e) o new (p .taken))
 
-    write-some : Wanted (after (growth g fresh b f (o + length new)))
-    write-some = growth-either g fresh b f (o + length new) (λ p. Wanted (after p)) no-growth grows
+    pub write-some : Wanted (after (growth g fresh b f (o + length new))) (gives (grownBy (growth g fresh b f (o + length new))))
+    write-some = growth-either g fresh b f (o + length new) (λ p. Wanted (after p) (gives (grownBy p))) no-growth grows
 
-  pub write-good : (new : List ℕ) → Small new → o + length new ≤ greatest g → writePlan g (lowest g b) b f o new .taken ≤ length (free g b)
-      → GoodPlan g b f (overwritten o new (contents g b f)) (writePlan g (lowest g b) b f o new)
-  unfolding writePlan plan overwritten
-  write-good [] small most room = none-good g fit b f _ refl
+  pub write-good : (new : List ℕ) → Small new → o + length new ≤ greatest g → writePlan g fresh b f o new .taken ≤ lim
+      → GoodPlan g b f fresh (overwritten o new (contents g b f)) (writeGives g fresh b f o new) (writePlan g fresh b f o new)
+  unfolding writePlan writeGives plan overwritten
+  write-good [] small most room = none-good g fit b f fresh _ refl
   write-good (x ∷ new) small most room = write-some (x ∷ new) (omega arith) small most room

@@ -18,6 +18,8 @@ use Rattle.model.specs.Store.{Store, performed, stores, epochs, fenced}
 use Rattle.model.specs.Hidden.{hidden}
 use Rattle.model.specs.Plan.{Step, stepEpochs, planEpochs, Plan, pairs}
 use Rattle.model.specs.Change.{writePlan}
+use Rattle.model.specs.GivenUp.{writeGives, lengthGives}
+use Rattle.model.proofs.Supplied.{supply-lowest}
 use Rattle.model.specs.Answers.{Faults, unlessRefused}
 use Rattle.model.specs.Calls.{boardFaults, fileFaults, Planned, planned, lowest, writeFaults, write, setLength}
 use Rattle.model.specs.Cut.{Change, writing, lengthTo, fileOf, called, planOf, altered, after, Cut, Names, standing, lastArrived, planFor}
@@ -133,16 +135,21 @@ module _ (g : Layout) (fit : Fits g) (b : List ℕ) (t : T (accepted g b)) (f : 
 
 -- ---- Calls
 
+-- the blocks that a change gives up
+unfoldable pub given : (g : Layout) (fresh : ℕ → ℕ) (b : List ℕ) → Change → List ℕ
+given g fresh b (writing f o new) = writeGives g fresh b f o (new .values)
+given g fresh b (lengthTo f n) = lengthGives g b f n
+
 -- the call is done, and its plan alters its file as it asks
 pub record Doing (g : Layout) (b : List ℕ) (c : Change) (p : Planned) : Type 0 where
   pub file-in : fileOf c < files g
-  pub good : GoodPlan g b (fileOf c) (altered c (contents g b (fileOf c))) (planFor g b c)
+  pub good : GoodPlan g b (fileOf c) (lowest g b) (altered c (contents g b (fileOf c))) (given g (lowest g b) b c) (planFor g b c)
   pub answers : p .answer ≡ Done (length (pairs (planFor g b c)))
   pub plans : planOf p ≡ pairs (planFor g b c)
 
 -- so it is, or refused, where its plan is good once no fault was found
 doing-either : (g : Layout) (b : List ℕ) (c : Change) (faults : Faults) (slice : List ℕ)
-    → (All Passed faults → (fileOf c < files g) × GoodPlan g b (fileOf c) (altered c (contents g b (fileOf c))) (planFor g b c))
+    → (All Passed faults → (fileOf c < files g) × GoodPlan g b (fileOf c) (lowest g b) (altered c (contents g b (fileOf c))) (given g (lowest g b) b c) (planFor g b c))
     → let p : Planned = planned faults (pairs (planFor g b c)) slice in
     Doing g b c p ⊎ Refusing p
 doing-either g b c faults slice good = elim (planned-either faults (pairs (planFor g b c)) slice) [
@@ -175,17 +182,17 @@ write-passed g b f o new p h =
 pub call-either : (g : Layout) → Fits g → (b : List ℕ) → T (accepted g b) → (c : Change) (slice : List ℕ)
     → let p : Planned = called g b c slice in
     Doing g b c p ⊎ Refusing p
-unfolding called write setLength fileOf altered planFor All
+unfolding called write setLength fileOf altered planFor given All
 call-either g fit b t (writing f o new) slice =
     let q : Plan = writePlan g (lowest g b) b f o (new .values) in
     doing-either g b (writing f o new) (writeFaults g b f o (new .values) q) slice (λ h.
     let ok = write-passed g b f o (new .values) q h in
-    (ok .0, write-good g fit b t f (ok .0) o (new .values) (bytes-small (new .values) (new .small)) (ok .1) (ok .2)))
+    (ok .0, write-good g fit b t f (ok .0) o (lowest g b) (length (free g b)) (supply-lowest g b) (new .values) (bytes-small (new .values) (new .small)) (ok .1) (ok .2)))
 call-either g fit b t (lengthTo f n) slice =
     let own : Faults = (End, ltb (greatest g) n) ∷ [] in
     doing-either g b (lengthTo f n) (fileFaults g b f ++ own) slice (λ h.
     let file : f < files g = file-passed g b f (all-left Passed (fileFaults g b f) own h) in
-    (file, length-good g fit b t f file n (ltb-false (greatest g) n (all-right Passed (fileFaults g b f) own h .0))))
+    (file, length-good g fit b t f file n (ltb-false (greatest g) n (all-right Passed (fileFaults g b f) own h .0)) (lowest g b)))
 
 pub power-cut-rule : PowerCutRule
 unfolding epochs pairs

@@ -9,6 +9,8 @@ use Rattle.model.proofs.Sums.{sum-le}
 use Rattle.model.proofs.Counting.{occ}
 use Rattle.model.proofs.Agree.{agree, byteAt-size, agree-byte, agree-blocks, agree-sound, beneath, occ-above, occ-node, sound-child, sound-root, sound-node}
 use Rattle.model.proofs.Splice.{splice-none}
+use Rattle.model.specs.GivenUp.{droppedBlocks}
+use Rattle.model.proofs.GivenUp.{dropped-exact}
 use Rattle.model.proofs.Changed.{Changed}
 
 module _ (W : ℕ) where
@@ -56,9 +58,10 @@ module _ (W : ℕ) (pos : 0 < W) where
         (aligned-shrink W (n - j * span W h) (suc m - j * span W h) w (omega arith) (old .0), shrink-sound top h (w / W) (n - j * span W h) (suc m - j * span W h) (omega arith) (old .1)))
 
   -- on a board that agrees, the smaller tree is the old one with nothing written
-  pub shrink-changed : (b b′ : List ℕ) (top h k n m o : ℕ) → m ≤ n → agree W b b′ h k n → Changed W b b′ top h k k n m o [] (λ q. 0)
+  pub shrink-changed : (b b′ : List ℕ) (top h k n m o : ℕ) → m ≤ n → agree W b b′ h k n
+      → Changed W b b′ top h k k n m o [] (λ q. 0) (λ q. occ q (droppedBlocks W b h k n m))
   shrink-changed b b′ top h k n m o l a = record {
     bytes = λ i u v. byteAt-size W pos b′ h k m n i v (omega arith) ∙ sym (agree-byte W pos b b′ h k n i u a) ∙ sym (splice-none o [] _ i refl);
-    counts = λ q. omega (arith, shrink-occ b′ h k n m q l, ap (occ q) (agree-blocks W pos b b′ h k n a));
+    counts = λ q. omega (arith, dropped-exact W pos b h k n m q l, ap (occ q) (agree-blocks W pos b b′ h k m (shrink-agree W b b′ h k n m l a)));
     fine = λ t. shrink-sound b′ top h k n m l (rw (agree-sound W pos b b′ top h k n a) at t);
   }

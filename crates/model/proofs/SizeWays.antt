@@ -27,18 +27,19 @@ use Rattle.model.proofs.Trees.{sound-null}
 use Rattle.model.proofs.Agree.{agree-away, agree-refl}
 use Rattle.model.proofs.Splice.{Small, splice-none, past-span}
 use Rattle.model.proofs.Changed.{Changed, changed-to}
+use Rattle.model.specs.GivenUp.{droppedBlocks}
 use Rattle.model.proofs.Built.{held, used, length-build-null, build-null-changed}
 use Rattle.model.proofs.InPlaceStores.{in-place-hidden, in-place-once}
 use Rattle.model.proofs.Tailed.{zeros-replicate, splice-zeros, hole-changed, length-tail, tail-changed, length-changed}
 use Rattle.model.proofs.Shrunk.{shrink-changed}
 use Rattle.model.proofs.Shown.{Same, words-pos, leaf-of, leaf-live, file-live, same-address, root-block, size-block}
 use Rattle.model.proofs.Accepting.{Facts, facts}
-use Rattle.model.proofs.Commits.{Had, had-blocks, Written, spliced, written-commit}
+use Rattle.model.proofs.Commits.{FileCommit, Had, had-blocks, Written, spliced, written-commit}
 use Rattle.model.proofs.Apart.{Spot, spot-ranged, spot-root, stored-size, leaf-not-file}
-use Rattle.model.proofs.Committing.{facts-same, spot-same, spot-commit}
+use Rattle.model.proofs.Committing.{facts-same, spot-same, spot-commit, spot-counts}
 use Rattle.model.proofs.Supplied.{Supply, supply-once, stored-hidden, stored-apart, stored-not-live}
 use Rattle.model.proofs.Steps.{committed}
-use Rattle.model.proofs.GoodSteps.{GoodStep, epoch-same, epoch-stands}
+use Rattle.model.proofs.GoodSteps.{GoodTurn, epoch-same, epoch-stands}
 
 module _ (g : Layout) (fit : Fits g) (b : List ℕ) (t : T (accepted g b)) (f : ℕ) (f-lt : f < files g) where
   ok : Facts g b
@@ -61,17 +62,17 @@ module _ (g : Layout) (fit : Fits g) (b : List ℕ) (t : T (accepted g b)) (f : 
     stands = epoch-stands g fit b t ss hides once
 
     -- what the file's tree has become there, if its size becomes m
-    pub record Sized (h k o m : ℕ) (new : List ℕ) (extra : ℕ → ℕ) : Type 0 where
+    pub record Sized (h k o m : ℕ) (new : List ℕ) (extra gone : ℕ → ℕ) : Type 0 where
       pub old : Had g b f h k
       pub height : root g c₁ f % g .words ≡ h
       pub low : h ≤ g .height
       pub most : m ≤ greatest g
       pub past : (i : ℕ) → span (g .words) h ≤ i → i < m → splice o new 0 i ≡ 0
-      pub change : Changed (g .words) b c₁ (blockCount g b - 1) h k (root g c₁ f / g .words) (size g b f) m o new extra
+      pub change : Changed (g .words) b c₁ (blockCount g b - 1) h k (root g c₁ f / g .words) (size g b f) m o new extra gone
       pub fine : T (sound (g .words) b (blockCount g b - 1) h k (size g b f))
       pub spare : (q : ℕ) → occ q (liveBlocks g b) + extra q ≤ 1
 
-    module _ (h k o m : ℕ) (new : List ℕ) (extra : ℕ → ℕ) (w : Sized h k o m new extra) where
+    module _ (h k o m : ℕ) (new : List ℕ) (extra gone : ℕ → ℕ) (w : Sized h k o m new extra gone) where
       abbrev a : ℕ
       a = sizeAddress g b f
 
@@ -111,7 +112,7 @@ module _ (g : Layout) (fit : Fits g) (b : List ℕ) (t : T (accepted g b)) (f : 
             w .spare q,
           ))
 
-      written : Written g fit b done len f h k o m new extra
+      written : Written g fit b done len f h k o m new extra gone
       written = record {
         old = w .old;
         height = ap (λ (x : ℕ). x % g .words) (sym root-kept) ∙ w .height;
@@ -119,17 +120,23 @@ module _ (g : Layout) (fit : Fits g) (b : List ℕ) (t : T (accepted g b)) (f : 
         low = w .low;
         most = w .most;
         past = w .past;
-        change = rw (← root-kept) (changed-to (g .words) pos b c₁ (blockCount g b - 1) done h k (root g c₁ f / g .words) (size g b f) m o new extra (w .change)
+        change = rw (← root-kept) (changed-to (g .words) pos b c₁ (blockCount g b - 1) done h k (root g c₁ f / g .words) (size g b f) m o new extra gone (w .change)
             (agree-away (g .words) pos c₁ a m h (root g c₁ f / g .words) m leaf-out));
       }
 
-      pub size-good : GoodStep g b f (step ss a m) (spliced g b f o new m)
+      file : FileCommit g b done f (spliced g b f o new m) extra gone
+      file = written-commit g fit b done len f h k o m new extra gone written (w .fine)
+
+      pub size-good : GoodTurn g b f (step ss a m) (spliced g b f o new m) extra gone
       unfolding step store committed
       size-good = record {
-        hides = hides;
-        once = once;
-        within = spot-ranged g fit b ok f f-lt a lent-spot;
-        outcome = spot-commit g fit b c₁ t same f f-lt a m spot (spliced g b f o new m) extra (written-commit g fit b done len f h k o m new extra written (w .fine)) (w .spare);
+        good = record {
+          hides = hides;
+          once = once;
+          within = spot-ranged g fit b ok f f-lt a lent-spot;
+          outcome = spot-commit g fit b c₁ t same f f-lt a m spot (spliced g b f o new m) extra gone file (w .spare);
+        };
+        lives = spot-counts g fit b c₁ t same f f-lt a m spot (spliced g b f o new m) extra gone file (w .spare);
       }
 
   -- the file's own tree
@@ -173,9 +180,10 @@ module _ (g : Layout) (fit : Fits g) (b : List ℕ) (t : T (accepted g b)) (f : 
   -- ---- Length change
 
   -- n < s: one store of the size
-  pub shorten-good : (n : ℕ) → n ≤ size g b f → 0 < size g b f → GoodStep g b f (step [] (sizeAddress g b f) n) (spliced g b f 0 [] n)
+  pub shorten-good : (n : ℕ) → n ≤ size g b f → 0 < size g b f → GoodTurn g b f (step [] (sizeAddress g b f) n) (spliced g b f 0 [] n) (λ q. 0)
+      (λ q. occ q (droppedBlocks (g .words) b (root g b f % g .words) (root g b f / g .words) (size g b f) n))
   unfolding All occ performed
-  shorten-good n less live = size-good [] tt (λ x. omega arith) (root g b f % g .words) (root g b f / g .words) 0 n [] (λ q. 0) (record {
+  shorten-good n less live = size-good [] tt (λ x. omega arith) (root g b f % g .words) (root g b f / g .words) 0 n [] (λ q. 0) (λ q. occ q (droppedBlocks (g .words) b (root g b f % g .words) (root g b f / g .words) (size g b f) n)) (record {
     old = tree-had;
     height = refl;
     low = ok .low f f-lt live;
@@ -188,14 +196,14 @@ module _ (g : Layout) (fit : Fits g) (b : List ℕ) (t : T (accepted g b)) (f : 
 
   -- s = 0: *it stores 0 to the root word*
   pub lengthen-empty-good : (n : ℕ) → size g b f ≡ 0 → n ≤ greatest g
-      → GoodStep g b f (step (store (rootAddress g b f) 0 ∷ []) (sizeAddress g b f) n) (spliced g b f (size g b f) (replicate (n - size g b f) 0) n)
+      → GoodTurn g b f (step (store (rootAddress g b f) 0 ∷ []) (sizeAddress g b f) n) (spliced g b f (size g b f) (replicate (n - size g b f) 0) n) (λ q. 0) (λ q. 0)
   unfolding All occ store
   lengthen-empty-good n z most =
       let ss : List Store = store (rootAddress g b f) 0 ∷ [] in
       let hides : All (λ s. T (hidden g b s)) ss = (root-hidden 0 z, tt) in
       let once : (x : ℕ) → occ x (addresses ss) ≤ 1 = λ x. omega (arith, one-most x (rootAddress g b f)) in
       let zero-root : root g (performed b ss) f ≡ 0 = root-stored ss hides 0 (stands ss hides once .0) in
-      size-good ss hides once 0 0 (size g b f) n (replicate (n - size g b f) 0) (λ q. 0) (record {
+      size-good ss hides once 0 0 (size g b f) n (replicate (n - size g b f) 0) (λ q. 0) (λ q. 0) (record {
         old = λ live. absurd (omega arith);
         height = ap (λ (x : ℕ). x % g .words) zero-root ∙ zero-mod (g .words);
         low = omega arith;
@@ -223,8 +231,8 @@ module _ (g : Layout) (fit : Fits g) (b : List ℕ) (t : T (accepted g b)) (f : 
     root-same : root g b f ≡ root g (performed b clears) f
     root-same = same clears clears-hidden clears-once .roots f f-lt live
 
-    pub lengthen-good : GoodStep g b f (step clears (sizeAddress g b f) n) (spliced g b f (size g b f) zeros n)
-    lengthen-good = size-good clears clears-hidden clears-once (root g b f % g .words) (root g b f / g .words) (size g b f) n zeros (λ q. 0) (record {
+    pub lengthen-good : GoodTurn g b f (step clears (sizeAddress g b f) n) (spliced g b f (size g b f) zeros n) (λ q. 0) (λ q. 0)
+    lengthen-good = size-good clears clears-hidden clears-once (root g b f % g .words) (root g b f / g .words) (size g b f) n zeros (λ q. 0) (λ q. 0) (record {
       old = tree-had;
       height = ap (λ (x : ℕ). x % g .words) (sym root-same);
       low = ok .low f f-lt live;
@@ -232,6 +240,7 @@ module _ (g : Layout) (fit : Fits g) (b : List ℕ) (t : T (accepted g b)) (f : 
       past = λ i u v. splice-zeros (size g b f) zeros 0 i (zeros-replicate (n - size g b f)) refl;
       change = rw (← root-same) (length-changed (g .words) pos b (performed b clears) (blockCount g b - 1) (root g b f % g .words) (root g b f / g .words) (size g b f) n (n - size g b f) 0 (rootAddress g b f) live (record {
         grows = more;
+        fits = rw (length-replicate {A = ℕ} (n - size g b f) 0) (omega arith);
         cover = λ i u v w. (u, rw (length-replicate {A = ℕ} (n - size g b f) 0) (omega arith));
         visible = same clears clears-hidden clears-once .trees f f-lt;
         stands = stands clears clears-hidden clears-once;
@@ -278,12 +287,13 @@ module _ (g : Layout) (fit : Fits g) (b : List ℕ) (t : T (accepted g b)) (f : 
         Stood : Store → Type 0
         Stood s = getD (performed b tail-epoch) (s .at) 0 ≡ s .value
 
-        pub tail-good : GoodStep g b f (step tail-epoch (sizeAddress g b f) (size g b f + length new)) (spliced g b f (size g b f) new (size g b f + length new))
+        pub tail-good : GoodTurn g b f (step tail-epoch (sizeAddress g b f) (size g b f + length new)) (spliced g b f (size g b f) new (size g b f + length new))
+            (λ q. used fresh q c (tailNeed (g .words) (root g b f % g .words) (size g b f) (length new))) (λ q. 0)
         unfolding Stood
         tail-good =
             let all-stand : Stands (performed b tail-epoch) tail-epoch = stands tail-epoch tail-hidden tail-once in
             size-good tail-epoch tail-hidden tail-once (root g b f % g .words) (root g b f / g .words) (size g b f) (size g b f + length new) new
-            (λ q. used fresh q c (tailNeed (g .words) (root g b f % g .words) (size g b f) (length new))) (record {
+            (λ q. used fresh q c (tailNeed (g .words) (root g b f % g .words) (size g b f) (length new))) (λ q. 0) (record {
               old = tree-had;
               height = ap (λ (x : ℕ). x % g .words) (sym tail-root);
               low = ok .low f f-lt live;
@@ -292,6 +302,7 @@ module _ (g : Layout) (fit : Fits g) (b : List ℕ) (t : T (accepted g b)) (f : 
               change = rw (← tail-root) (tail-changed (g .words) pos b (performed b tail-epoch) fresh lim (supply .nonzero) (blockCount g b - 1) (supply .below)
                   (root g b f % g .words) (root g b f / g .words) (size g b f) (size g b f + length new) new c (rootAddress g b f) live (record {
                     grows = omega arith;
+                    fits = omega arith;
                     cover = λ i u v w. (u, v);
                     visible = same tail-epoch tail-hidden tail-once .trees f f-lt;
                     stands = all-right Stood (stored (g .words) fresh tails c) others all-stand;
@@ -367,7 +378,7 @@ module _ (g : Layout) (fit : Fits g) (b : List ℕ) (t : T (accepted g b)) (f : 
         unfolding Held
         pages-stand = all-left Held (stored (g .words) fresh pages c) (store (rootAddress g b f) hook ∷ []) all-stand
 
-        sized : Sized first-epoch first-hidden first-once h 0 o (o + length new) new (λ q. used fresh q c (need (g .words) h o (length new)))
+        sized : Sized first-epoch first-hidden first-once h 0 o (o + length new) new (λ q. used fresh q c (need (g .words) h o (length new))) (λ q. 0)
         unfolding greatest
         sized = record {
           old = λ live. absurd (omega arith);
@@ -376,19 +387,20 @@ module _ (g : Layout) (fit : Fits g) (b : List ℕ) (t : T (accepted g b)) (f : 
           most = most;
           past = past-span o new (span (g .words) h) (o + length new) (omega (arith, least-reaches (g .words) pos (g .height) (o + length new) most));
           change = rw (ap (λ (x : ℕ). x / g .words) root-is ∙ hook-block, empty) (build-null-changed (g .words) pos b fresh (performed b first-epoch) lim (supply .nonzero) (blockCount g b - 1) (supply .below)
-              h o new c (o + length new) filled (rw (← first-taken) room) small (held-of-all (g .words) fresh (performed b first-epoch) pages c pages-stand) (λ i u v w. omega arith));
+              h o new c (o + length new) filled (rw (← first-taken) room) small (held-of-all (g .words) fresh (performed b first-epoch) pages c pages-stand) (omega arith) (λ i u v w. omega arith));
           fine = rw (sound-null (g .words) b (blockCount g b - 1) h (size g b f)) tt;
           spare = λ q. rw (← first-taken) (supply-once g b fresh c lim supply (ok .once) (length pages) room q);
         }
 
-        pub empty-tail-good : GoodStep g b f (step first-epoch (sizeAddress g b f) (o + length new)) (spliced g b f o new (o + length new))
-        empty-tail-good = size-good first-epoch first-hidden first-once h 0 o (o + length new) new (λ q. used fresh q c (need (g .words) h o (length new))) sized
+        pub empty-tail-good : GoodTurn g b f (step first-epoch (sizeAddress g b f) (o + length new)) (spliced g b f o new (o + length new))
+            (λ q. used fresh q c (need (g .words) h o (length new))) (λ q. 0)
+        empty-tail-good = size-good first-epoch first-hidden first-once h 0 o (o + length new) new (λ q. used fresh q c (need (g .words) h o (length new))) (λ q. 0) sized
 
         -- ---- The board that it leaves
 
         empty-root : root g (committed b (step first-epoch (sizeAddress g b f) (o + length new))) f ≡ hook
         unfolding step store committed
-        empty-root = sym (root-kept first-epoch first-hidden first-once h 0 o (o + length new) new (λ q. used fresh q c (need (g .words) h o (length new))) sized) ∙ root-is
+        empty-root = sym (root-kept first-epoch first-hidden first-once h 0 o (o + length new) new (λ q. used fresh q c (need (g .words) h o (length new))) (λ q. 0) sized) ∙ root-is
 
         pub empty-height : root g (committed b (step first-epoch (sizeAddress g b f) (o + length new))) f % g .words ≡ h
         empty-height = ap (λ (x : ℕ). x % g .words) empty-root ∙ hook-low

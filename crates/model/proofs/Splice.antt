@@ -119,6 +119,11 @@ Cover n m o l s = (i : ℕ) → n ≤ i → i < m → i < s → (o ≤ i) × (i 
 abbrev pub Reach : ℕ → ℕ → ℕ → ℕ → ℕ → Type 0
 Reach n m o l s = (i : ℕ) → n ≤ i → i < m → i < s → i < o + l
 
+-- what is written below m is so in each child
+pub part-fits : (s j o l m : ℕ) → 0 < partLength s j o l → (0 < l → o + l ≤ m) → o - j * s + partLength s j o l ≤ m - j * s
+unfolding partLength
+part-fits s j o l m some fits = omega (arith, fits (omega arith))
+
 pub splice-skip : (o : ℕ) (new : List ℕ) (old i : ℕ) → (o ≤ i → i < o + length new → ⊥) → splice o new old i ≡ old
 splice-skip o new old i none = elim (split o i) [
   | inl q ↦ elim (split (o + length new) i) [

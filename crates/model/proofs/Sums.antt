@@ -94,6 +94,9 @@ only-other i j x n = rw (ne-eqb i j n, only)
 pub sum-only : (m j x : ℕ) → sum m (λ i. only i j x) ≤ x
 sum-only m j x = omega (arith, sum-grow m (λ i. only i j x) (λ i. 0) j x (omega (arith, only-same j x)) (λ i l n. omega (arith, only-other i j x n)), sum-zero m (λ i. 0) (λ i l. refl))
 
+pub sum-only-at : (m j x : ℕ) → j < m → sum m (λ i. only i j x) ≡ x
+sum-only-at m j x l = omega (arith, sum-only m j x, sum-at m (λ i. only i j x) j l, only-same j x)
+
 -- a sum that is not 0 has a term that is not
 pub sum-some : (m : ℕ) (f : ℕ → ℕ) → 0 < sum m f → (j : ℕ) × (j < m) × (0 < f j)
 unfolding sum

@@ -35,7 +35,7 @@ use Rattle.model.proofs.Taking.{blocksOf}
 use Rattle.model.proofs.Rules.{call-either, plan-stores, accuracy-rule}
 
 -- the first n of a list, by its elements
-first-used : (l : List ℕ) (k n : ℕ) → 0 < k → used (λ i. getD l i 0) k 0 n ≡ occ k (take n l)
+pub first-used : (l : List ℕ) (k n : ℕ) → 0 < k → used (λ i. getD l i 0) k 0 n ≡ occ k (take n l)
 unfolding used sum occ
 first-used l k zero pos = refl
 first-used l k (suc n) pos = elim (split (length l) n) [

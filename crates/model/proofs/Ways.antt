@@ -11,13 +11,14 @@ use lib.Dec.{T, leb, eqb}
 use borrow.Author.Tests.{le-leb, lt-leb, eq-eqb, ne-eqb, eqb-true}
 use Rattle.model.specs.declared.WalkEnd.the-variants.{Block, Hole}
 use Rattle.model.specs.declared.WalkEnd.{WalkEnd}
-use Rattle.model.specs.Lists.{tabulate}
+use Rattle.model.specs.Lists.{tabulate, sum}
 use Rattle.model.specs.Layout.{Layout, Fits, files}
-use Rattle.model.specs.Tree.{live, span}
+use Rattle.model.specs.Tree.{live, span, least}
 use Rattle.model.specs.Board.{greatest, leaf, rootAddress, sizeAddress, root, size, walkTo, contents, liveBlocks, accepted}
 use Rattle.model.specs.Store.{Store, store}
 use Rattle.model.specs.Plan.{Plan, plan, Step, step}
 use Rattle.model.specs.Fresh.{Page, stored, freshPointer}
+use Rattle.model.specs.GivenUp.{pathBlocks, insideBlocks, wayGives}
 use Rattle.model.specs.InPlace.{atBlock, walkLive, tailPages, inPlace}
 use Rattle.model.specs.Change.{singleBlock, singleWord, isTail, emptyTailTo, emptyTail, tail, shadowInside, shadowWithLength, chosenWay}
 use Rattle.model.specs.Cut.{overwritten}
@@ -26,11 +27,14 @@ use Rattle.model.proofs.Counting.{occ}
 use Rattle.model.proofs.Perform.{All, length-tabulate}
 use Rattle.model.proofs.Altering.{spliced-write, spliced-cut, spliced-zeros}
 use Rattle.model.proofs.Splice.{Small}
+use Rattle.model.proofs.Built.{used, length-build-null}
+use Rattle.model.proofs.Tailed.{length-tail}
+use Rattle.model.proofs.Steps.{committed}
 use Rattle.model.proofs.Descent.{hole≢block}
 use Rattle.model.proofs.Shown.{words-pos, rootByte, contents-bytes, leaf-of, leaf-live, root-block, size-block}
 use Rattle.model.proofs.Commits.{spliced}
 use Rattle.model.proofs.Supplied.{Supply}
-use Rattle.model.proofs.GoodSteps.{GoodStep}
+use Rattle.model.proofs.GoodSteps.{GoodStep, GoodTurn}
 use Rattle.model.proofs.Taking.{Takes, in-place-live}
 use Rattle.model.proofs.InsideWays.{single-live, single-good, inside-live, inside-good}
 use Rattle.model.proofs.SizeWays.{tail-good, empty-tail-good}
@@ -69,12 +73,13 @@ module _ (g : Layout) (fit : Fits g) (b : List ℕ) (f : ℕ) where
 
 -- ---- The way that is chosen
 
--- a plan of one step, which is good and takes fresh blocks from number c on
-pub record OneStep (g : Layout) (b : List ℕ) (f : ℕ) (fresh : ℕ → ℕ) (c : ℕ) (wanted : List ℕ) (p : Plan) : Type 0 where
+-- a plan of one step, which is good and takes fresh blocks from number c on; the live blocks are those before and those taken, less those given up
+pub record OneStep (g : Layout) (b : List ℕ) (f : ℕ) (fresh : ℕ → ℕ) (c : ℕ) (wanted given : List ℕ) (p : Plan) : Type 0 where
   pub only : Step
   pub steps-are : p .steps ≡ only ∷ []
   pub good : GoodStep g b f only wanted
   pub takes : Takes g b fresh c (p .taken) only
+  pub lives : (q : ℕ) → occ q (liveBlocks g (committed b only)) + occ q given ≡ occ q (liveBlocks g b) + used fresh q c (p .taken - c)
 
 module _ (g : Layout) (fit : Fits g) (b : List ℕ) (t : T (accepted g b)) (f : ℕ) (f-lt : f < files g) (o : ℕ) (new : List ℕ) (some : 0 < length new) (small : Small new)
     (most : o + length new ≤ greatest g) (reach : 0 < size g b f → o + length new ≤ span (g .words) (root g b f % g .words))
@@ -82,13 +87,24 @@ module _ (g : Layout) (fit : Fits g) (b : List ℕ) (t : T (accepted g b)) (f : 
   abbrev wanted : List ℕ
   wanted = overwritten o new (contents g b f)
 
-  abbrev Good : Plan → Type 0
-  Good p = p .taken ≤ lim → OneStep g b f fresh c wanted p
+  abbrev Good : Plan → List ℕ → Type 0
+  Good p given = p .taken ≤ lim → OneStep g b f fresh c wanted given p
 
   -- one that leaves m bytes
-  one-good : (s : Step) (m c′ : ℕ) → m ≡ max (size g b f) (o + length new) → GoodStep g b f s (spliced g b f o new m) → Takes g b fresh c c′ s → OneStep g b f fresh c wanted (plan (s ∷ []) c′)
+  one-good : (s : Step) (m c′ : ℕ) (extra gone : ℕ → ℕ) (given : List ℕ) → m ≡ max (size g b f) (o + length new) → GoodTurn g b f s (spliced g b f o new m) extra gone → Takes g b fresh c c′ s
+      → ((q : ℕ) → (extra q ≡ used fresh q c (c′ - c)) × (gone q ≡ occ q given)) → OneStep g b f fresh c wanted given (plan (s ∷ []) c′)
   unfolding plan
-  one-good s m c′ e y k = record { only = s; steps-are = refl; good = rw (spliced-writes g fit b f o new some m e) at y; takes = k }
+  one-good s m c′ extra gone given e y k counts = record {
+    only = s;
+    steps-are = refl;
+    good = rw (spliced-writes g fit b f o new some m e) at (y .good);
+    takes = k;
+    lives = λ q. omega (arith, y .lives q, counts q .0, counts q .1);
+  }
+
+  -- what a plan takes that takes m more
+  used-more : (q m : ℕ) → used fresh q c m ≡ used fresh q c (c + m - c)
+  used-more q m = ap (used fresh q c) (omega arith)
 
   -- a word of the file's inode lies in a live block
   inode-live-at : (a : ℕ) → a / g .words ≡ leaf g b (f / g .inodes) → 0 < occ (a / g .words) (liveBlocks g b)
@@ -105,19 +121,19 @@ module _ (g : Layout) (fit : Fits g) (b : List ℕ) (t : T (accepted g b)) (f : 
     | inr m ↦ absurd (hole≢block K (rw (lt-leb (o + length new) (size g b f) m) at e))
   ]
 
-  single-way : (K : ℕ) → singleBlock g b f o (o + length new) ≡ Block K → Good (singleWord g b f K o new c)
-  unfolding singleWord plan step store stored All
+  single-way : (K : ℕ) → singleBlock g b f o (o + length new) ≡ Block K → Good (singleWord g b f K o new c) []
+  unfolding singleWord plan step store stored All occ used sum
   single-way K e room =
       let p = single-parts K e in
       let l : o + length new ≤ size g b f = p .0 in
-      one-good _ (size g b f) c (omega arith) (single-good g fit b t f f-lt o new some small l (reach (omega arith)) K (p .2) (p .1)) (record {
+      one-good _ (size g b f) c (λ q. 0) (λ q. 0) [] (omega arith) (single-good g fit b t f f-lt o new some small l (reach (omega arith)) K (p .2) (p .1)) (record {
         pages = [];
         others = [];
         is = refl;
         count = sym (add-zero c);
         others-live = tt;
         commit-live = single-live g fit b t f f-lt o new some small l (reach (omega arith)) K (p .2) (p .1);
-      })
+      }) (λ q. let z : c - c ≡ 0 = omega arith in (rw z, refl))
 
   -- 4
   tail-empty : (s : ℕ) → s ≡ 0 → tail g fresh b f s o new c ≡ emptyTail g fresh b f o new c
@@ -148,15 +164,16 @@ module _ (g : Layout) (fit : Fits g) (b : List ℕ) (t : T (accepted g b)) (f : 
       passes zero u l z = absurd (omega arith)
       passes (suc s) u l z = z
 
-  empty-tail-way : size g b f ≡ 0 → Good (emptyTail g fresh b f o new c)
-  unfolding emptyTailTo emptyTail plan step store All
-  empty-tail-way z room = one-good _ (o + length new) _ (omega arith)
+  empty-tail-way : size g b f ≡ 0 → Good (emptyTail g fresh b f o new c) []
+  unfolding emptyTailTo emptyTail plan step store All occ
+  empty-tail-way z room = one-good _ (o + length new) _ _ (λ q. 0) [] (omega arith)
       (empty-tail-good g fit b t f f-lt new some small fresh c lim supply z o most room)
       (record { pages = _; others = _; is = refl; count = refl; others-live = (inode-live-at (rootAddress g b f) (root-block g fit b f), tt); commit-live = inode-live-at (sizeAddress g b f) (size-block g fit b f) })
+      (λ q. (ap (used fresh q c) (sym (length-build-null (g .words) (words-pos g fit) b fresh (least (g .words) (g .height) (o + length new)) 0 o new c)) ∙ used-more q _, refl))
 
-  live-tail-way : 0 < size g b f → o ≡ size g b f → T (atBlock (walkLive (g .words) b (root g b f % g .words) (root g b f / g .words) (size g b f))) → Good (tailOf (size g b f))
-  unfolding plan step store
-  live-tail-way l e path room = one-good _ (size g b f + length new) _ (omega arith)
+  live-tail-way : 0 < size g b f → o ≡ size g b f → T (atBlock (walkLive (g .words) b (root g b f % g .words) (root g b f / g .words) (size g b f))) → Good (tailOf (size g b f)) []
+  unfolding plan step store occ
+  live-tail-way l e path room = one-good _ (size g b f + length new) _ _ (λ q. 0) [] (omega arith)
       (rw e (tail-good g fit b t f f-lt new some small fresh c lim supply l path (rw (← e) (reach l)) (rw (← e) most) room))
       (record {
         pages = _;
@@ -165,30 +182,32 @@ module _ (g : Layout) (fit : Fits g) (b : List ℕ) (t : T (accepted g b)) (f : 
         count = refl;
         others-live = in-place-live g b f f-lt (λ h l i. freshPointer (g .words) fresh h 0 l i) new c l;
         commit-live = inode-live-at (sizeAddress g b f) (size-block g fit b f);
-      })
+      }) (λ q. (ap (used fresh q c) (sym (length-tail (g .words) (words-pos g fit) b fresh (root g b f % g .words) (root g b f / g .words) (size g b f) new c)) ∙ used-more q _, refl))
 
-  tail-way : isTail g b f o ≡ true → Good (tail g fresh b f (size g b f) o new c)
+  tail-way : isTail g b f o ≡ true → Good (tail g fresh b f (size g b f) o new c) []
   tail-way e = elim (split (size g b f) 0) [
     | inl z ↦ let z′ : size g b f ≡ 0 = omega arith in rw (tail-empty (size g b f) z′) (empty-tail-way z′)
     | inr l ↦ rw (tail-live (size g b f) l) (live-tail-way l (tail-parts e l .0) (tail-parts e l .1))
   ]
 
   -- 5
-  inside-way : o + length new ≤ size g b f → Good (shadowInside g fresh b f o new c)
+  inside-way : o + length new ≤ size g b f → Good (shadowInside g fresh b f o new c) (insideBlocks (g .words) b (root g b f % g .words) (root g b f / g .words) (size g b f) o (length new))
   unfolding shadowInside plan step store All
-  inside-way l room = one-good _ (size g b f) _ (omega arith) (inside-good g fit b t f f-lt o new some small l (reach (omega arith)) fresh c lim supply room) (record {
+  inside-way l room = one-good _ (size g b f) _ _ _ _ (omega arith) (inside-good g fit b t f f-lt o new some small l (reach (omega arith)) fresh c lim supply room) (record {
     pages = _;
     others = [];
     is = sym (append-nil _);
     count = refl;
     others-live = tt;
     commit-live = inside-live g fit b t f f-lt o new some small l (reach (omega arith)) fresh c lim supply room;
-  })
+  }) (λ q. (used-more q _, refl))
 
   -- 6
   leaf-way : 0 < size g b f → size g b f < o + length new → Good (shadowWithLength g fresh b f o new c)
+      (leaf g b (f / g .inodes) ∷ pathBlocks (g .words) b (root g b f % g .words) (root g b f / g .words) (size g b f) o (length new))
   unfolding shadowWithLength plan
-  leaf-way l m room = one-good _ (max (size g b f) (o + length new)) _ refl (leaf-good g fit b t f f-lt o new some small l m (reach l) most fresh c lim supply room) (leaf-takes g fresh b f o new c fit f-lt)
+  leaf-way l m room = one-good _ (max (size g b f) (o + length new)) _ _ _ _ refl (leaf-good g fit b t f f-lt o new some small l m (reach l) most fresh c lim supply room) (leaf-takes g fresh b f o new c fit f-lt)
+      (λ q. (ap (used fresh q c) (omega arith), refl))
 
   -- whichever it is
   not-tail : isTail g b f o ≡ false → 0 < size g b f
@@ -198,13 +217,15 @@ module _ (g : Layout) (fit : Fits g) (b : List ℕ) (t : T (accepted g b)) (f : 
     | inr l ↦ l
   ]
 
-  pub way-good : (end : WalkEnd) → singleBlock g b f o (o + length new) ≡ end → Good (chosenWay g fresh b f end o new c)
-  unfolding chosenWay
+  pub way-good : (end : WalkEnd) → singleBlock g b f o (o + length new) ≡ end → Good (chosenWay g fresh b f end o new c) (wayGives g b f end o new)
+  unfolding chosenWay wayGives
   way-good (Block K) e = single-way K e
   way-good Hole e = by (isTail g b f o) refl
     where
       by : (u : Bool) → isTail g b f o ≡ u
           → Good (cond u (tail g fresh b f (size g b f) o new c) (cond (leb (o + length new) (size g b f)) (shadowInside g fresh b f o new c) (shadowWithLength g fresh b f o new c)))
+          (cond u [] (cond (leb (o + length new) (size g b f)) (insideBlocks (g .words) b (root g b f % g .words) (root g b f / g .words) (size g b f) o (length new))
+          (leaf g b (f / g .inodes) ∷ pathBlocks (g .words) b (root g b f % g .words) (root g b f / g .words) (size g b f) o (length new))))
       by true z = tail-way z
       by false z = elim (split (o + length new) (size g b f)) [
         | inl l ↦ rw (le-leb (o + length new) (size g b f) l) (inside-way l)

@@ -11,6 +11,7 @@ pub mod Plan
 pub mod Fresh
 pub mod InPlace
 pub mod Change
+pub mod GivenUp
 pub mod Format
 pub mod Answers
 pub mod Calls
