@@ -1,50 +1,61 @@
 -- A write's plan is the same with every function that gives the least sufficient height where the write ends.
-use mathlib.Core.Path.{_≡_, refl, ap}
-use mathlib.Core.Bool.{cond, _&&_}
+use mathlib.Core.Path.{_≡_, refl, ap, _∙_}
+use mathlib.Core.Bool.{cond}
 use mathlib.Core.List.{List, [], _∷_}
-use Prim.Native.Nat.{ℕ, zero, suc, _+_}
-use native.Mathlib.Omega.{arith}
+use Prim.Native.Nat.{ℕ, zero, suc, _+_, _*_, _/_}
 use lib.ListN.{length}
-use lib.Dec.{ltb}
-use borrow.Author.Tests.{lt-leb}
+use Rattle.model.specs.declared.Inode.{Inode}
+use Rattle.model.specs.declared.WalkEnd.{WalkEnd}
+use Rattle.model.specs.declared.WalkEnd.the-variants.{Block, Hole}
 use Rattle.model.specs.Lists.{concat}
 use Rattle.model.specs.Layout.{Layout, house}
-use Rattle.model.specs.Tree.{live, span, least}
-use Rattle.model.specs.Board.{rootHeight, size}
+use Rattle.model.specs.Tree.{live, least}
+use Rattle.model.specs.Board.{inodeBlock, rootAddress, root, size}
 use Rattle.model.specs.Store.{performed}
-use Rattle.model.specs.Plan.{plan, planEpochs, afterwards}
-use Rattle.model.specs.Change.{growthTo, growth, singleBlock, isTail, emptyTailTo, emptyTail, tail, chosenWay, writePlan}
+use Rattle.model.specs.Plan.{Plan, plan, planEpochs, afterwards}
+use Rattle.model.specs.Change.{growing, grownRoot, growthTo, growth, grownInode, singleBlock, isTail, emptyTailTo, emptyTail, tail, chosenWay, grownPlan, somePlan, writePlan}
 use Rattle.bands.specs.Sheet.{sheetHeight}
-use Rattle.bands.specs.Planned.{growthBy, wayBy, writePlanBy}
+use Rattle.bands.specs.Planned.{wayBy, growthBy, grownInodeBy, somePlanBy, writePlanBy}
 use Rattle.bands.specs.Claims.{SameHeightRule, SamePlanRule}
 use Rattle.bands.proofs.Bands.{least-rule}
+
+-- with s = 0 the way is the tail's
+way-same : (g : Layout) (tall fresh : ℕ → ℕ) (b : List ℕ) (n : Inode) (o : ℕ) (new : List ℕ) (c : ℕ) → tall (o + length new) ≡ least (g .words) (g .height) (o + length new)
+    → wayBy g tall fresh b n o new c ≡ chosenWay g fresh b n o new c
+unfolding wayBy chosenWay isTail live tail emptyTailTo emptyTail
+way-same g tall fresh b n o new c same = go (n .size) refl
+  where
+    go : (s : ℕ) → n .size ≡ s → wayBy g tall fresh b n o new c ≡ chosenWay g fresh b n o new c
+    go zero e = rw e (ap (λ (h : ℕ). emptyTailTo g fresh b n h o new c) same)
+    go (suc s) e = rw e
 
 module _ (g : Layout) (tall fresh : ℕ → ℕ) (b : List ℕ) (f : ℕ) where
   growth-same : (e : ℕ) → tall e ≡ least (g .words) (g .height) e → growthBy g tall fresh b f e ≡ growth g fresh b f e
   unfolding growthBy growth
-  growth-same e same = ap (λ (h : ℕ). cond (live (size g b f) && ltb (span (g .words) (rootHeight g b f)) e) (growthTo g fresh b f h) (plan [] 0)) same
+  growth-same e same = ap (λ (h : ℕ). cond (growing g b f e) (growthTo g fresh b f h) (plan [] 0)) same
 
-  empty-same : (o : ℕ) (new : List ℕ) (c : ℕ) → tall (o + length new) ≡ least (g .words) (g .height) (o + length new)
-      → emptyTailTo g fresh b f (tall (o + length new)) o new c ≡ emptyTail g fresh b f o new c
-  unfolding emptyTail
-  empty-same o new c same = ap (λ (h : ℕ). emptyTailTo g fresh b f h o new c) same
+  inode-same : (e : ℕ) → tall e ≡ least (g .words) (g .height) e → grownInodeBy g tall fresh b f e ≡ grownInode g fresh b f e
+  unfolding grownInodeBy grownInode
+  inode-same e same = λ t. record {
+    pointer = g .words * inodeBlock g b + f / g .inodes;
+    at = rootAddress g b f;
+    root = cond (growing g b f e) (grownRoot g fresh b f (same t)) (root g b f);
+    size = size g b f;
+  }
 
-  -- with s = 0 the way is the tail's
-  way-same : (o : ℕ) (x : ℕ) (new : List ℕ) (c : ℕ) → tall (o + suc (length new)) ≡ least (g .words) (g .height) (o + suc (length new))
-      → wayBy g tall fresh b f o (x ∷ new) c ≡ chosenWay g fresh b f (singleBlock g b f o (o + suc (length new))) o (x ∷ new) c
-  unfolding wayBy chosenWay singleBlock isTail live tail
-  way-same o x new c same = go (size g b f) refl
-    where
-      go : (s : ℕ) → size g b f ≡ s → wayBy g tall fresh b f o (x ∷ new) c ≡ chosenWay g fresh b f (singleBlock g b f o (o + suc (length new))) o (x ∷ new) c
-      go zero e = rw (e, lt-leb (o + suc (length new)) 0 (omega arith)) (rw e (empty-same o (x ∷ new) c same))
-      go (suc s) e = rw e
+  some-same : (end : WalkEnd) (o : ℕ) (new : List ℕ) → tall (o + length new) ≡ least (g .words) (g .height) (o + length new)
+      → somePlanBy g tall fresh b f end o new ≡ somePlan g fresh b f end o new
+  unfolding somePlanBy somePlan grownPlan
+  some-same (Block k) o new same = refl
+  some-same Hole o new same =
+      let p : Plan = growth g fresh b f (o + length new) in
+      rw (growth-same (o + length new) same, inode-same (o + length new) same)
+      (ap (afterwards p) (way-same g tall fresh (performed b (concat (planEpochs (p .steps)))) (grownInode g fresh b f (o + length new)) o new (p .taken) same))
 
 pub same-height-rule : SameHeightRule
 unfolding writePlanBy writePlan
 same-height-rule g tall fresh b f o [] same = refl
-same-height-rule g tall fresh b f o (x ∷ new) same =
-    rw (growth-same g tall fresh b f (o + suc (length new)) same)
-    (ap (afterwards (growth g fresh b f (o + suc (length new)))) (way-same g tall fresh (performed b (concat (planEpochs (growth g fresh b f (o + suc (length new)) .steps)))) f o x new _ same))
+same-height-rule g tall fresh b f o (x ∷ new) same = some-same g tall fresh b f (singleBlock g b f o (o + suc (length new))) o (x ∷ new) same
 
 pub same-plan-rule : SamePlanRule
 same-plan-rule fresh b f o new l = same-height-rule house sheetHeight fresh b f o new (least-rule (o + length new) l)

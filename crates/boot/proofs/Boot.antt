@@ -1,11 +1,10 @@
 -- Block 0, the boot block: what it holds decides no answer, no plan and no slice.
-use mathlib.Core.Path.{_≡_, refl, sym, subst, _∙_, ap}
-use mathlib.Core.Logic.{_≢_, inl, inr}
+use mathlib.Core.Path.{_≡_, refl, sym, subst, _∙_}
 use mathlib.Core.Bool.{Bool, true, false, not, _&&_, _||_}
 use mathlib.Core.List.{List, [], _∷_, _++_, append-nil, append-assoc}
 use Prim.Native.Nat.{ℕ, suc, _+_, _-_, _*_, _/_, _%_, _<_, min}
 use native.Mathlib.Omega.{arith}
-use lib.ListN.{length, getD, take, drop, List·getD-eq-default}
+use lib.ListN.{length, getD, take, drop}
 use lib.Dec.{leb, ltb, eqb, T}
 use borrow.Author.Tests.{leb-false, not-false}
 use Rattle.model.specs.declared.Answer.the-variants.{Refused}
@@ -23,14 +22,11 @@ use Rattle.model.specs.Answers.{Faults, answered, unlessRefused}
 use Rattle.model.specs.Calls.{wordCountFault, boardFaults, fileFaults, checkAnswer, freeCountAnswer, sizeAnswer, readCount, readAnswer, readBuffer, planned, lowest, writeFaults, write, setLength, format, performFaults, performAnswer}
 use Rattle.model.specs.Cut.{Change, writing, lengthTo, called}
 use Rattle.model.specs.Claims.{SameCalls, BootRule}
-use Rattle.model.proofs.Cases.{true-left, every-cong, joined-cong, every-of, split}
-use Rattle.model.proofs.Counting.{occ}
-use Rattle.model.proofs.Shown.{leaf-of, slot, inode-live, words-kept}
+use Rattle.model.proofs.Cases.{true-left, every-cong, joined-cong, every-of}
+use Rattle.model.proofs.Shown.{words-pos, leaf-of, words-kept}
 use Rattle.model.proofs.Accepting.{Ranged, inode-range, leaf-range, facts, counted}
-use Rattle.model.proofs.Census.{FreeBlock, free-at}
-use Rattle.model.proofs.Apart.{inode-not-leaf}
 use Rattle.boot.proofs.Alike.{Alike, dropped-alike, Found, count-alike, trailer-alike, inode-alike, pointer-alike, leaf-alike, size-alike, file-blocks-alike, file-sound-alike, contents-alike}
-use Rattle.boot.proofs.BootPlans.{length-plan-alike, Clear, write-plan-alike}
+use Rattle.boot.proofs.BootPlans.{length-plan-alike, write-plan-alike}
 
 -- the second tests need agree only where the first hold
 and-alike : (s s′ r r′ : Bool) → s ≡ s′ → (s ≡ true → r ≡ r′) → (s && r) ≡ (s′ && r′)
@@ -103,29 +99,6 @@ module _ (g : Layout) (fit : Fits g) (b : List ℕ) where
 
   file-found : Rooted g b → (f : ℕ) → f < files g → Found g b f
   file-found r f l = record { trailer-there = r .trailer-there; inode-there = r .inode-there; leaf-there = r .leaves-there (f / g .inodes) (leaf-of g fit f l) .0 }
-
-  -- the i-th fresh block is free, or 0 where there are too few
-  lowest-is : (P : ℕ → Type 0) → P 0 → ((x : ℕ) → FreeBlock g b x → P x) → (i : ℕ) → P (lowest g b i)
-  unfolding lowest
-  lowest-is P none each i = elim (split (length (free g b)) i) [
-    | inl past ↦ rw (List·getD-eq-default (free g b) 0 past) none
-    | inr l ↦ each (getD (free g b) i 0) (free-at g b i l)
-  ]
-
-  -- so on an accepted board growth leaves the trailer and the inode pointer block alone
-  write-clear : T (accepted g b) → (f : ℕ) → f < files g → Clear g (lowest g b) b f
-  write-clear t f l =
-      let ok = facts g fit b t in
-      let which : f / g .inodes < g .leaves = leaf-of g fit f l in
-      record {
-        found = file-found (rooted t) f l;
-        trailer-stays = lowest-is (λ x. blockCount g b - 1 ≢ x) (omega (arith, rooted t .trailer-there)) (λ x k. omega (arith, k .1));
-        trailer-leaf = omega (arith, ok .leaf-in (f / g .inodes) which .1);
-        inode-stays = lowest-is (λ x. inodeBlock g b ≢ x) (omega (arith, ok .inode .0)) (λ x k e. omega (arith, inode-live g b, k .2, ap (λ (y : ℕ). occ y (liveBlocks g b)) e));
-        inode-leaf = λ e. inode-not-leaf g b (ok .once) (f / g .inodes) which (sym e);
-        pointer-inside = omega (arith, which, fit .leaves-fit);
-        root-inside = omega (arith, slot g fit f);
-      }
 
 -- ---- Two boards
 
@@ -218,7 +191,7 @@ module _ (g : Layout) (fit : Fits g) {b b′ : List ℕ} (same : Alike (g .words
     write-plans : T (accepted g b) × f < files g → (o : ℕ) (new : List ℕ) → writePlan g (lowest g b) b f o new ≡ writePlan g (lowest g b′) b′ f o new
     unfolding lowest
     write-plans p o new =
-        write-plan-alike g same (lowest g b) f (write-clear g fit b (p .0) f (p .1)) o new ∙ (λ t. writePlan g (λ i. getD (free-alike (p .0) t) i 0) b′ f o new)
+        write-plan-alike g (words-pos g fit) same (lowest g b) f (found p) o new ∙ (λ t. writePlan g (λ i. getD (free-alike (p .0) t) i 0) b′ f o new)
 
     write-alike : (o : ℕ) (new slice : List ℕ) → write g b f o new slice ≡ write g b′ f o new slice
     unfolding write writeFaults

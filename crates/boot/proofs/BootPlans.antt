@@ -1,30 +1,27 @@
 -- Boards that are alike outside block 0 have the same plans: each way of planning a write, growth before it, and length change. A file's plan is
--- read off its inode and its tree, so all that is asked of a board is that the file's inode is found outside block 0 (Found). What follows growth
--- is planned on the grown board, which need not be an accepted one: there, growth's stores have left the way to the inode as it was (Clear).
+-- read off its inode and its tree, so all that is asked of a board is that the file's inode is found outside block 0 (Found).
 use mathlib.Core.Path.{_≡_, refl, _∙_}
-use mathlib.Core.Logic.{_≢_}
 use mathlib.Core.Bool.{Bool, true, false, not, cond, _&&_, _||_}
 use mathlib.Core.List.{List, [], _∷_, _++_}
 use Prim.Native.Nat.{ℕ, zero, suc, _+_, _-_, _*_, _/_, _%_, _≤_, _<_, max}
 use native.Mathlib.Omega.{arith}
+use native.Mathlib.Nat.{le-div-iff-mul-le}
 use lib.ListN.{length, getD, replicate}
 use lib.Dec.{leb, ltb, eqb}
+use Rattle.model.specs.declared.Inode.{Inode}
 use Rattle.model.specs.declared.WalkEnd.{WalkEnd}
 use Rattle.model.specs.declared.WalkEnd.the-variants.{Block, Hole}
 use Rattle.model.specs.Lists.{joined, sum, choose, concat}
 use Rattle.model.specs.Words.{byteOf, wordOf}
 use Rattle.model.specs.Layout.{Layout}
 use Rattle.model.specs.Tree.{live, seen, ending, span, least, cell}
-use Rattle.model.specs.Board.{blockCount, trailer, inodeBlock, inodePointer, leaf, rootAddress, sizeAddress, root, size, walkTo}
+use Rattle.model.specs.Board.{rootAddress, sizeAddress, root, size, walkTo}
 use Rattle.model.specs.Store.{Store, store, performed}
 use Rattle.model.specs.Plan.{Plan, plan, step, planEpochs, afterwards}
 use Rattle.model.specs.Fresh.{Page, splice, part, partLength, touched, freshNeed, freshBefore, dataPage, stored, freshPointer, pointerPage, build}
 use Rattle.model.specs.InPlace.{atBlock, tailBefore, walkLive, tailPages, tailWords, hooked, inPlace}
-use Rattle.model.specs.Change.{levels, levelTop, growthTo, growth, splicedWord, singleBlock, singleWord, isTail, emptyTailTo, emptyTail, tail, Shadow, descend, shadowInside, leafPage, shadowWithLength, chosenWay, writePlan, cleared, lengthPlan}
-use Rattle.model.proofs.Perform.{All, all-append, length-performed, performed-away, blocks-differ, stored-blocks}
-use Rattle.model.proofs.Shown.{count-kept}
-use Rattle.model.proofs.Steps.{steps-stores}
-use Rattle.boot.proofs.Alike.{Alike, performed-alike, Off, off-cond, walk-to-off, cell-alike, link-alike, Found, inode-alike, leaf-alike, address-alike, address-off, root-alike, size-alike, walk-to-alike}
+use Rattle.model.specs.Change.{levels, levelTop, growthTo, growth, grownInode, splicedWord, singleBlock, singleWord, isTail, emptyTailTo, emptyTail, tail, Shadow, descend, shadowInside, leafPage, shadowWithLength, chosenWay, grownPlan, somePlan, writePlan, cleared, lengthPlan}
+use Rattle.boot.proofs.Alike.{Alike, performed-alike, Off, off-cond, walk-to-off, cell-alike, link-alike, Found, inode-alike, address-alike, address-off, root-alike, size-alike, walk-to-alike}
 
 -- ---- Trees
 
@@ -133,24 +130,15 @@ module _ (g : Layout) {b b′ : List ℕ} (same : Alike (g .words) b b′) {f : 
   unfolding sizeAddress
   size-address = λ t. address t + 1
 
-  leaf-word : (j : ℕ) → cell (g .words) b (leaf g b (f / g .inodes)) j ≡ cell (g .words) b′ (leaf g b′ (f / g .inodes)) j
-  leaf-word j = cell-alike (g .words) same (leaf g b (f / g .inodes)) j (found .leaf-there)
-      ∙ (λ t. cell (g .words) b′ (leaf-alike g same (found .trailer-there) (found .inode-there) (f / g .inodes) t) j)
-
   single-block-alike : (o e : ℕ) → singleBlock g b f o e ≡ singleBlock g b′ f o e
   unfolding singleBlock
   single-block-alike o e = λ t. cond (leb e (sizes t) && eqb (o / 8) ((e - 1) / 8)) (walk-to-alike g same found o t) Hole
 
-  single-word-alike : (k o : ℕ) (new : List ℕ) (c : ℕ) → 0 < k → singleWord g b f k o new c ≡ singleWord g b′ f k o new c
+  single-word-alike : (k o : ℕ) (new : List ℕ) → 0 < k → singleWord g b k o new ≡ singleWord g b′ k o new
   unfolding singleWord cell
-  single-word-alike k o new c l = λ t.
+  single-word-alike k o new l = λ t.
       let j : ℕ = o % span (g .words) 0 / 8 in
-      plan (step [] (g .words * k + j) (splicedWord (o % 8) new (cell-alike (g .words) same k j l t)) ∷ []) c
-
-  is-tail-alike : (o : ℕ) → isTail g b f o ≡ isTail g b′ f o
-  unfolding isTail
-  is-tail-alike o = λ t. not (live (sizes t))
-      || eqb o (sizes t) && atBlock (walk-live-alike (g .words) same (root-word t % g .words) (root-word t / g .words) (sizes t) t)
+      plan (step [] (g .words * k + j) (splicedWord (o % 8) new (cell-alike (g .words) same k j l t)) ∷ []) 0
 
   cleared-alike : (s n : ℕ) → cleared g b f s n ≡ cleared g b′ f s n
   unfolding cleared
@@ -177,134 +165,104 @@ module _ (g : Layout) {b b′ : List ℕ} (same : Alike (g .words) b b′) {f : 
     growth-alike e =
         λ t. cond (live (sizes t) && ltb (span (g .words) (root-word t % g .words)) e) (growth-to-alike (least (g .words) (g .height) e) t) (plan [] 0)
 
-    empty-tail-alike : (o : ℕ) (new : List ℕ) (c : ℕ) → emptyTail g fresh b f o new c ≡ emptyTail g fresh b′ f o new c
+    grown-inode-alike : (e : ℕ) → grownInode g fresh b f e ≡ grownInode g fresh b′ f e
+    unfolding grownInode
+    grown-inode-alike e = λ t.
+        let h : ℕ = least (g .words) (g .height) e in
+        record {
+          pointer = g .words * inode-alike g same (found .trailer-there) t + f / g .inodes;
+          at = address t;
+          root = cond (live (sizes t) && ltb (span (g .words) (root-word t % g .words)) e) (g .words * levelTop fresh (root-word t / g .words) (h - root-word t % g .words) + h) (root-word t);
+          size = sizes t;
+        }
+
+-- ways 4 to 6, of an inode that stands outside block 0
+module _ (g : Layout) {b b′ : List ℕ} (same : Alike (g .words) b b′) (pos : 0 < g .words) (n : Inode) (off : g .words ≤ n .at) where
+  is-tail-alike : (o : ℕ) → isTail g b n o ≡ isTail g b′ n o
+  unfolding isTail
+  is-tail-alike o = λ t. not (live (n .size)) || eqb o (n .size) && atBlock (walk-live-alike (g .words) same (n .root % g .words) (n .root / g .words) (n .size) t)
+
+  module _ (fresh : ℕ → ℕ) where
+    empty-tail-alike : (o : ℕ) (new : List ℕ) (c : ℕ) → emptyTail g fresh b n o new c ≡ emptyTail g fresh b′ n o new c
     unfolding emptyTailTo emptyTail
     empty-tail-alike o new c = λ t.
         let h : ℕ = least (g .words) (g .height) (o + length new) in
         let ps : List Page = build-alike (g .words) same fresh h 0 0 o new c t in
-        let hook : Store = store (address t) (freshPointer (g .words) fresh h o (length new) c + h) in
-        plan (step (stored (g .words) fresh ps c ++ (hook ∷ [])) (size-address t) (o + length new) ∷ []) (c + length ps)
+        let hook : Store = store (n .at) (freshPointer (g .words) fresh h o (length new) c + h) in
+        plan (step (stored (g .words) fresh ps c ++ (hook ∷ [])) (n .at + 1) (o + length new) ∷ []) (c + length ps)
 
-    tail-alike : (s o : ℕ) (new : List ℕ) (c : ℕ) → tail g fresh b f s o new c ≡ tail g fresh b′ f s o new c
+    tail-alike : (s o : ℕ) (new : List ℕ) (c : ℕ) → tail g fresh b n s o new c ≡ tail g fresh b′ n s o new c
     unfolding tail
     tail-alike zero o new c = empty-tail-alike o new c
     tail-alike (suc s) o new c = λ t.
-        let h : ℕ = root-word t % g .words in
-        let k : ℕ = root-word t / g .words in
+        let h : ℕ = n .root % g .words in
+        let k : ℕ = n .root / g .words in
         let ps : List Page = tail-pages-alike (g .words) same fresh h k (suc s) new c t in
-        let others : List Store = in-place-alike (g .words) same (λ h l i. freshPointer (g .words) fresh h 0 l i) h k (suc s) new c (address t) t in
-        plan (step (stored (g .words) fresh ps c ++ others) (size-address t) (suc s + length new) ∷ []) (c + length ps)
+        let others : List Store = in-place-alike (g .words) same (λ h l i. freshPointer (g .words) fresh h 0 l i) h k (suc s) new c (n .at) t in
+        plan (step (stored (g .words) fresh ps c ++ others) (n .at + 1) (suc s + length new) ∷ []) (c + length ps)
 
-    shadow-inside-alike : (o : ℕ) (new : List ℕ) (c : ℕ) → shadowInside g fresh b f o new c ≡ shadowInside g fresh b′ f o new c
+    shadow-inside-alike : (o : ℕ) (new : List ℕ) (c : ℕ) → shadowInside g fresh b n o new c ≡ shadowInside g fresh b′ n o new c
     unfolding shadowInside
     shadow-inside-alike o new c =
         let W : ℕ = g .words in
-        let w : Shadow = descend W fresh b (root g b f % W) (root g b f / W) (size g b f) o new c (rootAddress g b f) in
-        let w′ : Shadow = descend W fresh b′ (root g b′ f % W) (root g b′ f / W) (size g b′ f) o new c (rootAddress g b′ f) in
-        let arrived : w ≡ w′ = λ t. descend-alike W same fresh (root-word t % W) (root-word t / W) (sizes t) o new c (address t) t in
-        let off : W ≤ w .at = descend-off W fresh b (root g b f % W) (root g b f / W) (size g b f) o new c (rootAddress g b f) (address-off g same found) in
-        let word : getD b (w .at) 0 ≡ getD b′ (w′ .at) 0 = same .words (w .at) off ∙ (λ t. getD b′ (arrived t .at) 0) in
+        let w : Shadow = descend W fresh b (n .root % W) (n .root / W) (n .size) o new c (n .at) in
+        let w′ : Shadow = descend W fresh b′ (n .root % W) (n .root / W) (n .size) o new c (n .at) in
+        let arrived : w ≡ w′ = descend-alike W same fresh (n .root % W) (n .root / W) (n .size) o new c (n .at) in
+        let outside : W ≤ w .at = descend-off W fresh b (n .root % W) (n .root / W) (n .size) o new c (n .at) off in
+        let word : getD b (w .at) 0 ≡ getD b′ (w′ .at) 0 = same .words (w .at) outside ∙ (λ t. getD b′ (arrived t .at) 0) in
         λ t. let ps : List Page = arrived t .pages in
         plan (step (stored W fresh ps c) (arrived t .at) (W * fresh (c + length ps - 1) + word t % W) ∷ []) (c + length ps)
 
-    leaf-page-alike : (r s : ℕ) → leafPage g fresh b f r s ≡ leafPage g fresh b′ f r s
-    unfolding leafPage
-    leaf-page-alike r s = λ t j. cond (eqb j (2 * (f % g .inodes))) r (cond (eqb j (2 * (f % g .inodes) + 1)) s (leaf-word j t))
+    leaf-there : 0 < n .at / g .words
+    leaf-there = le-div-iff-mul-le pos .1 (omega arith)
 
-    shadow-with-length-alike : (o : ℕ) (new : List ℕ) (c : ℕ) → shadowWithLength g fresh b f o new c ≡ shadowWithLength g fresh b′ f o new c
+    leaf-page-alike : (r s : ℕ) → leafPage (g .words) b (n .at) r s ≡ leafPage (g .words) b′ (n .at) r s
+    unfolding leafPage
+    leaf-page-alike r s = λ t j. cond (eqb j (n .at % g .words)) r (cond (eqb j (n .at % g .words + 1)) s (cell-alike (g .words) same (n .at / g .words) j leaf-there t))
+
+    shadow-with-length-alike : (o : ℕ) (new : List ℕ) (c : ℕ) → shadowWithLength g fresh b n o new c ≡ shadowWithLength g fresh b′ n o new c
     unfolding shadowWithLength
     shadow-with-length-alike o new c = λ t.
-        let ps : List Page = build-alike (g .words) same fresh (root-word t % g .words) (root-word t / g .words) (sizes t) o new c t in
-        let copy : Page = leaf-page-alike (g .words * fresh (c + length ps - 1) + root-word t % g .words) (max (sizes t) (o + length new)) t in
-        plan (step (stored (g .words) fresh (ps ++ (copy ∷ [])) c) (g .words * inode-alike g same (found .trailer-there) t + f / g .inodes)
-        (g .words * fresh (c + length ps)) ∷ []) (c + length ps + 1)
+        let ps : List Page = build-alike (g .words) same fresh (n .root % g .words) (n .root / g .words) (n .size) o new c t in
+        let copy : Page = leaf-page-alike (g .words * fresh (c + length ps - 1) + n .root % g .words) (max (n .size) (o + length new)) t in
+        plan (step (stored (g .words) fresh (ps ++ (copy ∷ [])) c) (n .pointer) (g .words * fresh (c + length ps)) ∷ []) (c + length ps + 1)
 
-    chosen-way-alike : (w : WalkEnd) → Off w → (o : ℕ) (new : List ℕ) (c : ℕ) → chosenWay g fresh b f w o new c ≡ chosenWay g fresh b′ f w o new c
-    unfolding chosenWay Off
-    chosen-way-alike (Block k) off o new c = single-word-alike k o new c off
-    chosen-way-alike Hole off o new c = λ t.
-        cond (is-tail-alike o t) (tail-alike (sizes t) o new c t)
-        (cond (leb (o + length new) (sizes t)) (shadow-inside-alike o new c t) (shadow-with-length-alike o new c t))
+    way-alike : (o : ℕ) (new : List ℕ) (c : ℕ) → chosenWay g fresh b n o new c ≡ chosenWay g fresh b′ n o new c
+    unfolding chosenWay
+    way-alike o new c = λ t.
+        cond (is-tail-alike o t) (tail-alike (n .size) o new c t)
+        (cond (leb (o + length new) (n .size)) (shadow-inside-alike o new c t) (shadow-with-length-alike o new c t))
 
-    way-alike : (o e : ℕ) (new : List ℕ) (c : ℕ) → chosenWay g fresh b f (singleBlock g b f o e) o new c ≡ chosenWay g fresh b′ f (singleBlock g b′ f o e) o new c
-    way-alike o e new c =
-        chosen-way-alike (singleBlock g b f o e) (single-off g b f o e) o new c ∙ (λ t. chosenWay g fresh b′ f (single-block-alike o e t) o new c)
-
--- ---- Growth
+-- ---- Write
 
 -- the stores of a plan
 abbrev storesOf : Plan → List Store
 storesOf p = concat (planEpochs (p .steps))
 
--- growth stores to fresh blocks and to the root word
-module _ (g : Layout) (fresh : ℕ → ℕ) (b : List ℕ) (f : ℕ) (P : ℕ → Type 0) (blocks : (i j : ℕ) → j < g .words → P (g .words * fresh i + j)) (word : P (rootAddress g b f)) where
-  growth-to-stores : (h : ℕ) → All (λ s. P (s .at)) (storesOf (growthTo g fresh b f h))
-  unfolding growthTo plan step planEpochs concat store All
-  growth-to-stores h =
-      let d : ℕ = h - root g b f % g .words in
-      let k : ℕ = root g b f / g .words in
-      let ps : List Page = levels (g .words) fresh k d in
-      let c : Store = store (rootAddress g b f) (g .words * levelTop fresh k d + h) in
-      rw (steps-stores (step (stored (g .words) fresh ps 0) (c .at) (c .value)) [])
-      (all-append (λ s. P (s .at)) (stored (g .words) fresh ps 0) (c ∷ []) (stored-blocks (g .words) fresh P ps 0 (λ i j u v l. blocks i j l)) (word, tt))
+module _ (g : Layout) (pos : 0 < g .words) {b b′ : List ℕ} (same : Alike (g .words) b b′) (fresh : ℕ → ℕ) (f : ℕ) (found : Found g b f) where
+  inode-off : (e : ℕ) → g .words ≤ grownInode g fresh b f e .at
+  unfolding grownInode
+  inode-off e = address-off g same found
 
-  growth-stores : (e : ℕ) → All (λ s. P (s .at)) (storesOf (growth g fresh b f e))
-  unfolding growth plan planEpochs concat All
-  growth-stores e = by (live (size g b f) && ltb (span (g .words) (root g b f % g .words)) e)
-    where
-      by : (t : Bool) → All (λ s. P (s .at)) (storesOf (cond t (growthTo g fresh b f (least (g .words) (g .height) e)) (plan [] 0)))
-      by true = growth-to-stores (least (g .words) (g .height) e)
-      by false = tt
+  -- first the grown boards, by one plan of growth; then that plan and the other board's
+  grown-plan-alike : (o : ℕ) (new : List ℕ) → grownPlan g fresh b f o new ≡ grownPlan g fresh b′ f o new
+  unfolding grownPlan
+  grown-plan-alike o new =
+      let e : ℕ = o + length new in
+      let p : Plan = growth g fresh b f e in
+      let same′ : Alike (g .words) (performed b (storesOf p)) (performed b′ (storesOf p)) = performed-alike (g .words) b b′ (storesOf p) same in
+      (λ t. afterwards p (way-alike g same′ pos (grownInode g fresh b f e) (inode-off e) fresh o new (p .taken) t))
+      ∙ (λ t. let q : Plan = growth-alike g same found fresh e t in
+      afterwards q (chosenWay g fresh (performed b′ (storesOf q)) (grown-inode-alike g same found fresh e t) o new (q .taken)))
 
--- no block that growth stores to is the trailer or the inode pointer block
-pub record Clear (g : Layout) (fresh : ℕ → ℕ) (b : List ℕ) (f : ℕ) : Type 0 where
-  pub found : Found g b f
-  pub trailer-stays : (i : ℕ) → blockCount g b - 1 ≢ fresh i
-  pub trailer-leaf : blockCount g b - 1 ≢ leaf g b (f / g .inodes)
-  pub inode-stays : (i : ℕ) → inodeBlock g b ≢ fresh i
-  pub inode-leaf : inodeBlock g b ≢ leaf g b (f / g .inodes)
-  pub pointer-inside : f / g .inodes < g .words
-  pub root-inside : 2 * (f % g .inodes) < g .words
+  some-plan-alike : (end : WalkEnd) → Off end → (o : ℕ) (new : List ℕ) → somePlan g fresh b f end o new ≡ somePlan g fresh b′ f end o new
+  unfolding somePlan Off
+  some-plan-alike (Block k) off o new = single-word-alike g same found k o new off
+  some-plan-alike Hole off o new = grown-plan-alike o new
 
-module _ (g : Layout) (fresh : ℕ → ℕ) (b : List ℕ) (f : ℕ) (clear : Clear g fresh b f) (e : ℕ) where
-  grown : List ℕ
-  grown = performed b (storesOf (growth g fresh b f e))
-
-  cell-stays : (k j : ℕ) → j < g .words → ((i : ℕ) → k ≢ fresh i) → k ≢ leaf g b (f / g .inodes) → cell (g .words) grown k j ≡ cell (g .words) b k j
-  unfolding grown cell rootAddress
-  cell-stays k j l fr lf = performed-away b (storesOf (growth g fresh b f e)) (g .words * k + j)
-      (growth-stores g fresh b f (λ a. g .words * k + j ≢ a) (λ i j′ m. blocks-differ (g .words) k (fresh i) j j′ l m (fr i))
-      (blocks-differ (g .words) k (leaf g b (f / g .inodes)) j (2 * (f % g .inodes)) l (clear .root-inside) lf) e)
-
-  count-stays : blockCount g grown ≡ blockCount g b
-  unfolding grown
-  count-stays = count-kept g grown b (length-performed b (storesOf (growth g fresh b f e)))
-
-  inode-block-stays : inodeBlock g grown ≡ inodeBlock g b
-  unfolding inodeBlock trailer
-  inode-block-stays = rw (count-stays, cell-stays (blockCount g b - 1) 0 (omega (arith, clear .pointer-inside)) (clear .trailer-stays) (clear .trailer-leaf))
-
-  leaf-stays : leaf g grown (f / g .inodes) ≡ leaf g b (f / g .inodes)
-  unfolding leaf inodePointer
-  leaf-stays = rw (inode-block-stays, cell-stays (inodeBlock g b) (f / g .inodes) (clear .pointer-inside) (clear .inode-stays) (clear .inode-leaf))
-
-  grown-found : Found g grown f
-  grown-found = record {
-    trailer-there = rw count-stays (clear .found .trailer-there);
-    inode-there = rw inode-block-stays (clear .found .inode-there);
-    leaf-there = rw leaf-stays (clear .found .leaf-there);
-  }
-
--- first the grown boards, by one plan of growth; then that plan and the other board's
-pub write-plan-alike : (g : Layout) {b b′ : List ℕ} → Alike (g .words) b b′ → (fresh : ℕ → ℕ) (f : ℕ) → Clear g fresh b f → (o : ℕ) (new : List ℕ)
-    → writePlan g fresh b f o new ≡ writePlan g fresh b′ f o new
-unfolding writePlan grown
-write-plan-alike g same fresh f clear o [] = refl
-write-plan-alike g {b} {b′} same fresh f clear o (x ∷ new) =
-    let e : ℕ = o + suc (length new) in
-    let p : Plan = growth g fresh b f e in
-    let same′ : Alike (g .words) (performed b (storesOf p)) (performed b′ (storesOf p)) = performed-alike (g .words) b b′ (storesOf p) same in
-    (λ t. afterwards p (way-alike g same′ (grown-found g fresh b f clear e) fresh o e (x ∷ new) (p .taken) t))
-    ∙ (λ t. let q : Plan = growth-alike g same (clear .found) fresh e t in
-    let c : List ℕ = performed b′ (storesOf q) in
-    afterwards q (chosenWay g fresh c f (singleBlock g c f o e) o (x ∷ new) (q .taken)))
+  pub write-plan-alike : (o : ℕ) (new : List ℕ) → writePlan g fresh b f o new ≡ writePlan g fresh b′ f o new
+  unfolding writePlan
+  write-plan-alike o [] = refl
+  write-plan-alike o (x ∷ new) =
+      let e : ℕ = o + suc (length new) in
+      some-plan-alike (singleBlock g b f o e) (single-off g b f o e) o (x ∷ new) ∙ (λ t. somePlan g fresh b′ f (single-block-alike g same found o e t) o (x ∷ new))

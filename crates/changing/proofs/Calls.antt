@@ -3,7 +3,7 @@ use mathlib.Core.Path.{_≡_, refl, sym, ap, _∙_}
 use mathlib.Core.Logic.{inl, inr}
 use mathlib.Core.Bool.{Bool, _&&_}
 use mathlib.Core.List.{List, [], _∷_, _++_}
-use Prim.Native.Nat.{ℕ, suc, _+_, _/_, _≤_, _<_}
+use Prim.Native.Nat.{ℕ, _+_, _/_, _≤_, _<_}
 use native.Mathlib.Omega.{arith}
 use lib.ListN.{length}
 use lib.Dec.{T, ltb}
@@ -12,20 +12,18 @@ use Rattle.model.specs.declared.Answer.{Answer}
 use Rattle.model.specs.declared.Answer.the-variants.{Done, Refused}
 use Rattle.model.specs.declared.Fault.{Fault}
 use Rattle.model.specs.declared.Fault.the-variants.{End, FreeBlocks, PlanLength}
-use Rattle.model.specs.Lists.{concat}
 use Rattle.model.specs.Layout.{house, files}
 use Rattle.model.specs.Tree.{span}
 use Rattle.model.specs.Board.{greatest, size, wordCountSound, trailerSound, treesSound, accepted, free}
-use Rattle.model.specs.Store.{Store, performed, fenced, laid}
-use Rattle.model.specs.Plan.{Plan, plan, pairs, planEpochs, afterwards}
-use Rattle.model.specs.Change.{growth, singleBlock, writePlan, lengthPlan}
+use Rattle.model.specs.Store.{Store, fenced, laid}
+use Rattle.model.specs.Plan.{Plan, plan, pairs, planEpochs}
+use Rattle.model.specs.Change.{writePlan, lengthPlan}
 use Rattle.model.specs.Answers.{Faults, answered}
 use Rattle.model.specs.Calls.{Planned, wordCountFault, boardFaults, fileFaults, checkAnswer, planned, lowest, writeFaults, write, setLength}
 use Rattle.model.proofs.Cases.{split, is-true, and-left, and-right}
 use Rattle.model.proofs.Refusals.{not-refused, first-refused, first-done}
 use Rattle.model.proofs.Accepting.{facts}
 use Rattle.model.proofs.Formatted.{house-fits}
-use Rattle.model.proofs.Ways.{taken-from}
 use Rattle.plans.specs.Laying.{Laid, PlanResult}
 use Rattle.plans.proofs.Laying.{laid-none}
 use Rattle.plans.proofs.Refusing.{turned, too-short, long-enough}
@@ -35,16 +33,6 @@ use Rattle.building.specs.Taking.{taking}
 use Rattle.growing.specs.declared.Count.{Count}
 use Rattle.growing.specs.Planned.{PlanLaid}
 use Rattle.planning.specs.Asked.{File, Stocked}
-
--- the plan takes at least what growth takes
-growth-first : (fresh : ℕ → ℕ) (b : List ℕ) (f o : ℕ) (new : List ℕ) → 0 < length new
-    → growth house fresh b f (o + length new) .taken ≤ writePlan house fresh b f o new .taken
-unfolding writePlan afterwards plan
-growth-first fresh b f o [] l = absurd (omega arith)
-growth-first fresh b f o (x ∷ new) l =
-    let p : Plan = growth house fresh b f (o + suc (length new)) in
-    let grown : List ℕ = performed b (concat (planEpochs (p .steps))) in
-    taken-from house fresh grown f (singleBlock house grown f o (o + suc (length new))) o (x ∷ new) (p .taken)
 
 -- ---- A plan is first worked out on an empty part of the slice, which leaves the slice as it was
 
@@ -162,14 +150,11 @@ module _ {b : List ℕ} {f o : ℕ} {new table : List ℕ} {count : ℕ} (s : St
   tablePlan = writePlan house (taking table) b f o new
 
   same-plan : tablePlan ≡ lowestPlan b f o new
-  same-plan = let same : taking table ≡ lowest house b = λ i x. s .asked .lists x i in ap (λ (fresh : ℕ → ℕ). writePlan house fresh b f o new) same
+  same-plan = let same : taking table ≡ lowest house b = λ i x. s .lists x i in ap (λ (fresh : ℕ → ℕ). writePlan house fresh b f o new) same
 
   module _ {slice : List ℕ} where
     lacks : count < tablePlan .taken → PlanResult (write house b f o new slice) (Refused FreeBlocks) slice
     lacks l = no-blocks b f o new slice (s .asked .of) (s .asked .end) (rw (← same-plan) (omega (arith, s .all)))
-
-    pub growth-lacks : {n : ℕ} → n ≡ growth house (taking table) b f (o + length new) .taken → count < n → PlanResult (write house b f o new slice) (Refused FreeBlocks) slice
-    growth-lacks e l = lacks (omega (arith, growth-first (taking table) b f o new (s .asked .some)))
 
   module _ {plan₀ plan₁ : List ℕ} {r : Count} (q : PlanLaid plan₀ 0 tablePlan plan₁ r) where
     enough : r .taken ≤ count → lowestPlan b f o new .taken ≤ length (free house b)

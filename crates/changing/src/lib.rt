@@ -3,7 +3,6 @@
 use boards::last;
 use model::Answer;
 use model::Fault;
-use planning::growth_blocks;
 use planning::list_free;
 use planning::plan_length;
 use planning::plan_write;
@@ -27,9 +26,6 @@ fn write_some(
     requires { ⌜ Stocked (now board) file o (now new) (now free) count ⌝ }
     ensures { λ r. ⌜ PlanResult (write house (now (board .entry)) file o (now (new .entry)) (now (plan .entry))) r (now (plan .exit)) ⌝ }
 {
-    if count < growth_blocks(board, free, file, o + new.len() as u64) {
-        return Answer::Refused(Fault::FreeBlocks);
-    }
     let all = plan.len();
     let wanted = plan_write(board, free, &mut plan[..0], file, o, new);
     if count < wanted.taken {

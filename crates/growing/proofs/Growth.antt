@@ -9,7 +9,7 @@ use native.Mathlib.Numerals.{sub-one}
 use lib.ListN.{length, getD}
 use Rattle.model.specs.Lists.{tabulate}
 use Rattle.model.specs.Layout.{house}
-use Rattle.model.specs.Board.{root}
+use Rattle.model.specs.Board.{trailer, inodeBlock, sizeAddress, root, size}
 use Rattle.model.specs.Store.{store}
 use Rattle.model.specs.Fresh.{Page}
 use Rattle.model.specs.Change.{levelPage, levelBelow, levels, levelTop, growthTo}
@@ -17,7 +17,7 @@ use Rattle.model.proofs.Perform.{length-tabulate}
 use Rattle.plans.specs.Laying.{closing, Laid}
 use Rattle.building.specs.Taking.{taking, Blocks, Took}
 use Rattle.building.proofs.Taken as Taken
-use Rattle.growing.specs.Planned.{PlanLaid, AddressOf}
+use Rattle.growing.specs.Planned.{PlanLaid, AddressOf, InodeOf}
 use Rattle.growing.proofs.OneStep.{one-step}
 
 -- ---- Levels
@@ -69,14 +69,16 @@ unfolding levelBelow
 below-small zero b l e = rw e l
 below-small (suc t) b l e = rw e (b .small t)
 
--- it stands over d levels, and these over block k
-pub top-is : {free plan plan′ : List ℕ} {t v : ℕ} (k d : ℕ) → Took free plan 0 0 (levels 8 (taking free) k d) plan′ t → v ≡ levelBelow (taking free) k t
-    → v ≡ levelTop (taking free) k d
-unfolding levels levelTop levelBelow
-top-is {free} {t = t} zero d l e = let z : t ≡ 0 = l .next in e ∙ rw z
-top-is {free} {t = t} (suc k) d l e =
-    let et : t ≡ d = omega (arith, l .next, length-tabulate d (levelAt (taking free) (suc k))) in
-    e ∙ ap (levelBelow (taking free) (suc k)) et
+-- the root word of a null tree, and of another
+pub null-root : (fresh : ℕ → ℕ) (k d h : ℕ) → k ≡ 0 → h ≡ 8 * levelTop fresh k d + h
+unfolding levelTop
+null-root fresh zero d h e = omega arith
+null-root fresh (suc k) d h e = absurd (omega arith)
+
+pub top-root : {v : ℕ} (fresh : ℕ → ℕ) (k d h : ℕ) → k ≢ 0 → v ≡ levelBelow fresh k d → 8 * v + h ≡ 8 * levelTop fresh k d + h
+unfolding levelTop
+top-root fresh zero d h f e = absurd (f refl)
+top-root fresh (suc k) d h f e = rw e
 
 -- ---- The plan
 
@@ -85,12 +87,19 @@ pub root-word : {b : List ℕ} {f a w : ℕ} → AddressOf b f a → w ≡ getD 
 unfolding root
 root-word {b} at e = e ∙ ap (λ (x : ℕ). getD b x 0) (at .is)
 
--- the levels were laid, then the commit of the root word
-pub growth-laid : {b free slice slice₁ slice₂ : List ℕ} {f a w t top p : ℕ} (h : ℕ) → AddressOf b f a → w ≡ getD b a 0
-    → Took free slice 0 0 (levels 8 (taking free) (w / 8) (h - w % 8)) slice₁ t → top ≡ levelBelow (taking free) (w / 8) t
-    → Laid slice₁ (8 * t) (closing (8 * t - 0) (store a (8 * top + h))) slice₂ p
+-- the levels were laid, then the commit of the root word v
+pub growth-laid : {b free slice slice₁ slice₂ : List ℕ} {f a w t v p : ℕ} (h : ℕ) → AddressOf b f a → w ≡ getD b a 0
+    → Took free slice 0 0 (levels 8 (taking free) (w / 8) (h - w % 8)) slice₁ t → v ≡ 8 * levelTop (taking free) (w / 8) (h - w % 8) + h
+    → Laid slice₁ (8 * t) (closing (8 * t - 0) (store a v)) slice₂ p
     → PlanLaid slice 0 (growthTo house (taking free) b f h) slice₂ (record { pairs = p; taken = t })
 unfolding growthTo
-growth-laid {b} {free} {slice} {slice₁} {slice₂} {f} {a} {w} {t} {top} {p} h at ew l u commit =
+growth-laid {b} {free} {slice} {slice₁} {slice₂} {f} {a} {w} {t} {v} {p} h at ew l ev commit =
     let all : length (levels 8 (taking free) (w / 8) (h - w % 8)) ≡ t = omega (arith, l .next) in
-    rw (← (root-word at ew), ← (at .is), ← (top-is (w / 8) (h - w % 8) l u), all) (one-step a (8 * top + h) t (rw (zero-add (8 * t)) at (Taken.laid-pages l)) commit refl)
+    rw (← (root-word at ew), ← (at .is), ← ev, all) (one-step a v t (rw (zero-add (8 * t)) at (Taken.laid-pages l)) commit refl)
+
+-- ---- The inode
+
+pub inode-is : {b : List ℕ} {f w a r s : ℕ} → w ≡ trailer house b 0 → AddressOf b f a → r ≡ getD b a 0 → s ≡ getD b (a + 1) 0
+    → InodeOf b f (record { pointer = 8 * (w / 8) + f / 4; at = a; root = r; size = s })
+unfolding inodeBlock root size sizeAddress
+inode-is ew at er es = record { is = rw (ew, er, es, at .is); small = at .small }

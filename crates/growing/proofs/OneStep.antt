@@ -38,7 +38,7 @@ whole-word o new x = refl
 
 -- it has no hidden stores
 pub single-laid : (b new : List ℕ) (k o : ℕ) {slice slice′ : List ℕ} {x w : ℕ} → x ≡ getD b (8 * k + o % 64 / 8) 0 → w ≡ wordOf 8 (splicedByte x 8 (o % 8) new 0)
-    → slice′ ≡ laid slice 0 (store (8 * k + o % 64 / 8) w ∷ []) → PlanLaid slice 0 (singleWord house b 0 k o new 0) slice′ (record { pairs = 1; taken = 0 })
+    → slice′ ≡ laid slice 0 (store (8 * k + o % 64 / 8) w ∷ []) → PlanLaid slice 0 (singleWord house b k o new) slice′ (record { pairs = 1; taken = 0 })
 unfolding singleWord span closing
 single-laid b new k o {x = x} {w = w} ex ew e =
     rw (← ex, ← (whole-word (o % 8) new x), ← ew) (one-step (8 * k + o % 64 / 8) w 0 Laying.none (Laying.one e) refl)

@@ -1,8 +1,8 @@
--- The board that growth leaves: the inode stands where it stood, the tree spans the write, and a write to a single word is one there if it is one on the lent
--- board. Growth comes before no such write: all its bytes would lie past the old tree's span.
+-- The board that growth leaves: its inode is what a plan goes by, which is the lent board's but for the root; and a write to a single word is one there if it is
+-- one on the lent board. Growth comes before no such write: all its bytes would lie past the old tree's span.
 use mathlib.Core.Path.{_≡_, refl, sym, _∙_}
 use mathlib.Core.Logic.{inl, inr}
-use mathlib.Core.Bool.{Bool, _&&_}
+use mathlib.Core.Bool.{Bool, true, false, _&&_}
 use mathlib.Core.List.{List, []}
 use Prim.Native.Nat.{ℕ, zero, suc, _-_, _/_, _%_, _≤_, _<_}
 use native.Mathlib.Omega.{arith}
@@ -14,31 +14,25 @@ use Rattle.model.specs.declared.WalkEnd.the-variants.{Hole}
 use Rattle.model.specs.Lists.{concat}
 use Rattle.model.specs.Layout.{Layout, Fits, files}
 use Rattle.model.specs.Tree.{span, least, walk}
-use Rattle.model.specs.Board.{rootWalk, greatest, inodeBlock, rootAddress, root, size, walkTo, accepted}
+use Rattle.model.specs.Board.{rootWalk, greatest, root, size, inodeOf, walkTo, accepted}
 use Rattle.model.specs.Store.{performed}
 use Rattle.model.specs.Plan.{plan, planEpochs}
 use Rattle.model.specs.Fresh.{Page}
-use Rattle.model.specs.Change.{levelPage, levelBelow, levels, levelTop, growthTo, growth, singleBlock}
+use Rattle.model.specs.Change.{levelPage, levelBelow, levels, levelTop, growing, growthTo, growth, grownInode, singleBlock}
 use Rattle.model.proofs.Cases.{split, either, true-right}
-use Rattle.model.proofs.Spans.{span-power, span-pos, span-mono, child, least-reaches, least-within, least-least}
+use Rattle.model.proofs.Spans.{span-power, span-pos, span-mono, child, least-reaches, least-least}
 use Rattle.model.proofs.Perform.{length-tabulate}
 use Rattle.model.proofs.Trees.{walk-null}
 use Rattle.model.proofs.Built.{held}
 use Rattle.model.proofs.Grown.{other-block, last-level}
 use Rattle.model.proofs.Shown.{words-pos}
-use Rattle.model.proofs.Accepting.{facts}
 use Rattle.model.proofs.Supplied.{Supply}
 use Rattle.model.proofs.Steps.{committed}
-use Rattle.model.proofs.GrowthWay.{growthStep, growth-performed, growth-either, growth-size, growth-length, growth-inode, growth-address, growth-height, growth-reaches, growth-top, growth-held}
+use Rattle.model.proofs.GrowthWay.{growthStep, growth-performed, growing-more, growing-cases, growth-size, growth-inode, growth-address, growth-root, growth-height, growth-top, growth-held}
 
 -- c is the board that growth leaves of b, for a write to file f from o up to e
-pub record GrownBoard (g : Layout) (b c : List ℕ) (f o e : ℕ) : Type 0 where
-  pub lengths : length c ≡ length b
-  pub sizes : size g c f ≡ size g b f
-  pub address : rootAddress g c f ≡ rootAddress g b f
-  pub inode : inodeBlock g c ≡ inodeBlock g b
-  pub height : 0 < size g c f → root g c f % g .words ≤ g .height
-  pub spans : 0 < size g c f → e ≤ span (g .words) (root g c f % g .words)
+pub record GrownBoard (g : Layout) (fresh : ℕ → ℕ) (b c : List ℕ) (f o e : ℕ) : Type 0 where
+  pub inode : grownInode g fresh b f e ≡ inodeOf g c f
   pub single : singleBlock g c f o e ≡ singleBlock g b f o e
 
 -- a span is whole words, so if one byte of a word lies past it, all do
@@ -88,17 +82,9 @@ module _ (W : ℕ) (pos : 0 < W) (b : List ℕ) (fresh : ℕ → ℕ) (lim : ℕ
 module _ (g : Layout) (fit : Fits g) (b : List ℕ) (t : T (accepted g b)) (f : ℕ) (f-lt : f < files g) (fresh : ℕ → ℕ) (lim : ℕ) (supply : Supply g b fresh 0 lim)
     (o e : ℕ) (some : o < e) (most : e ≤ greatest g) where
   -- no growth
-  same-board : (0 < size g b f → e ≤ span (g .words) (root g b f % g .words)) → GrownBoard g b (performed b (concat (planEpochs (plan [] 0 .steps)))) f o e
-  unfolding plan planEpochs concat performed
-  same-board reach = record {
-    lengths = refl;
-    sizes = refl;
-    address = refl;
-    inode = refl;
-    height = facts g fit b t .low f f-lt;
-    spans = reach;
-    single = refl;
-  }
+  same-board : growing g b f e ≡ false → GrownBoard g fresh b (performed b (concat (planEpochs (plan [] 0 .steps)))) f o e
+  unfolding plan planEpochs concat performed grownInode
+  same-board still = record { inode = rw still; single = refl }
 
   module _ (live : 0 < size g b f) (more : span (g .words) (root g b f % g .words) < e) where
     abbrev h : ℕ
@@ -125,16 +111,22 @@ module _ (g : Layout) (fit : Fits g) (b : List ℕ) (t : T (accepted g b)) (f : 
           (growth-held g fit b t f f-lt live fresh lim supply e most more room)
           (λ x u. word-past W x o e some word (least-least W pos (g .height) e x u)) (omega arith) (omega (arith, some, reaches)))
 
-      larger-board : GrownBoard g b (performed b (concat (planEpochs (growthTo g fresh b f h .steps)))) f o e
+      larger-board : GrownBoard g fresh b (performed b (concat (planEpochs (growthTo g fresh b f h .steps)))) f o e
+      unfolding grownInode
       larger-board = rw (growth-performed g fresh b f h) (record {
-        lengths = growth-length g fit b t f f-lt live fresh lim supply e most more room;
-        sizes = growth-size g fit b t f f-lt live fresh lim supply e most more room;
-        address = growth-address g fit b t f f-lt live fresh lim supply e most more room;
-        inode = growth-inode g fit b t f f-lt live fresh lim supply e most more room;
-        height = λ l. rw (growth-height g fit b t f f-lt live fresh lim supply e most more room) (least-within W (words-pos g fit) (g .height) e);
-        spans = λ l. growth-reaches g fit b t f f-lt live fresh lim supply e most more room;
+        inode = rw (
+          growing-more g b f e live more,
+          growth-inode g fit b t f f-lt live fresh lim supply e most more room,
+          growth-address g fit b t f f-lt live fresh lim supply e most more room,
+          growth-root g fit b t f f-lt live fresh lim supply e most more room,
+          growth-size g fit b t f f-lt live fresh lim supply e most more room,
+        );
         single = single-hole g c f o e new-hole ∙ sym (single-past g b f o e some more);
       })
 
-  pub grown-board : growth g fresh b f e .taken ≤ lim → GrownBoard g b (performed b (concat (planEpochs (growth g fresh b f e .steps)))) f o e
-  grown-board = growth-either g fresh b f e (λ p. p .taken ≤ lim → GrownBoard g b (performed b (concat (planEpochs (p .steps)))) f o e) (λ reach room. same-board reach) larger-board
+  pub grown-board : growth g fresh b f e .taken ≤ lim → GrownBoard g fresh b (performed b (concat (planEpochs (growth g fresh b f e .steps)))) f o e
+  unfolding growth
+  grown-board room = elim (growing-cases g b f e) [
+    | inl c ↦ rw (c .0) (same-board (c .0))
+    | inr c ↦ rw (c .0) (larger-board (c .1) (c .2) (rw (c .0) at room))
+  ]

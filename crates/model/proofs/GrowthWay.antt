@@ -1,10 +1,10 @@
 -- Growth, the first step of a write that ends past its tree's span, is a good step: the file reads as before. On the board that it leaves the tree spans
 -- the write, and the fresh blocks that it did not take are still not live.
 use mathlib.Core.Path.{_≡_, refl, sym, ap, subst, _∙_}
-use mathlib.Core.Logic.{inl, inr}
-use mathlib.Core.Bool.{and-false}
+use mathlib.Core.Logic.{_⊎_, inl, inr}
+use mathlib.Core.Bool.{true, false, and-false}
 use mathlib.Core.List.{List, [], _∷_, append-nil}
-use Prim.Native.Nat.{ℕ, _+_, _-_, _*_, _/_, _%_, _≤_, _<_}
+use Prim.Native.Nat.{ℕ, _+_, _-_, _/_, _%_, _≤_, _<_}
 use native.Mathlib.Omega.{arith}
 use native.Mathlib.Nat.{mod-eq-of-lt, mul-add-mod-self-left, zero-add}
 use lib.ListN.{length, set, length-set}
@@ -17,7 +17,7 @@ use Rattle.model.specs.Board.{rootWalk, rootBlocks, greatest, blockCount
 use Rattle.model.specs.Store.{Store, store, performed}
 use Rattle.model.specs.Plan.{Step, step, Plan, plan, planEpochs}
 use Rattle.model.specs.Fresh.{Page, stored}
-use Rattle.model.specs.Change.{levels, levelTop, growthTo, growth}
+use Rattle.model.specs.Change.{levels, levelTop, growing, grownRoot, growthTo}
 use Rattle.model.proofs.Cases.{split}
 use Rattle.model.proofs.Counting.{occ}
 use Rattle.model.proofs.Spans.{span-mono, least-reaches, least-within, least-above}
@@ -44,41 +44,34 @@ module _ (g : Layout) (fresh : ℕ → ℕ) (b : List ℕ) (f h : ℕ) where
   abbrev pub growthPages : List Page
   growthPages = levels (g .words) fresh (root g b f / g .words) (h - root g b f % g .words)
 
-  -- the word that commits them
-  abbrev pub growthRoot : ℕ
-  growthRoot = g .words * levelTop fresh (root g b f / g .words) (h - root g b f % g .words) + h
-
   -- growth to height h is one step
   abbrev pub growthStep : Step
-  growthStep = step (stored (g .words) fresh growthPages 0) (rootAddress g b f) growthRoot
+  growthStep = step (stored (g .words) fresh growthPages 0) (rootAddress g b f) (grownRoot g fresh b f h)
 
   -- and the board with its stores performed is the one with the step committed
   pub growth-performed : performed b (concat (planEpochs (growthTo g fresh b f h .steps))) ≡ committed b growthStep
   unfolding growthTo plan allCommitted
   growth-performed = performed-steps b (growthStep ∷ [])
 
-module _ (g : Layout) (fresh : ℕ → ℕ) (b : List ℕ) (f e : ℕ) where
-  -- *If s > 0 and e exceeds the span, the least sufficient height is reached first*
-  growth-grows : 0 < size g b f → span (g .words) (root g b f % g .words) < e → growth g fresh b f e ≡ growthTo g fresh b f (least (g .words) (g .height) e)
-  unfolding growth
-  growth-grows some more = rw (live-some (size g b f) some, lt-ltb (span (g .words) (root g b f % g .words)) e more)
+module _ (g : Layout) (b : List ℕ) (f e : ℕ) where
+  -- *If s > 0 and e exceeds the span*, and only then
+  pub growing-more : 0 < size g b f → span (g .words) (root g b f % g .words) < e → growing g b f e ≡ true
+  growing-more some more = rw (live-some (size g b f) some, lt-ltb (span (g .words) (root g b f % g .words)) e more)
 
-  growth-empty : size g b f ≡ 0 → growth g fresh b f e ≡ plan [] 0
-  unfolding growth live
-  growth-empty z = rw z
+  growing-empty : size g b f ≡ 0 → growing g b f e ≡ false
+  unfolding live
+  growing-empty z = rw z
 
-  growth-spanned : e ≤ span (g .words) (root g b f % g .words) → growth g fresh b f e ≡ plan [] 0
-  unfolding growth
-  growth-spanned l = rw (le-ltb (span (g .words) (root g b f % g .words)) e l, and-false)
+  growing-spanned : e ≤ span (g .words) (root g b f % g .words) → growing g b f e ≡ false
+  growing-spanned l = rw (le-ltb (span (g .words) (root g b f % g .words)) e l, and-false)
 
-  -- so what holds where the file is empty or the tree spans e, and where it grows, holds of growth
-  pub growth-either : (P : Plan → Type 0) → ((0 < size g b f → e ≤ span (g .words) (root g b f % g .words)) → P (plan [] 0))
-      → (0 < size g b f → span (g .words) (root g b f % g .words) < e → P (growthTo g fresh b f (least (g .words) (g .height) e))) → P (growth g fresh b f e)
-  growth-either P stays grows = elim (split (size g b f) 0) [
-    | inl z ↦ let none : size g b f ≡ 0 = omega arith in rw (growth-empty none) (stays (λ l. absurd (omega arith)))
+  pub growing-cases : ((growing g b f e ≡ false) × (0 < size g b f → e ≤ span (g .words) (root g b f % g .words)))
+      ⊎ ((growing g b f e ≡ true) × (0 < size g b f) × (span (g .words) (root g b f % g .words) < e))
+  growing-cases = elim (split (size g b f) 0) [
+    | inl z ↦ inl (growing-empty (omega arith), λ l. absurd (omega arith))
     | inr l ↦ elim (split e (span (g .words) (root g b f % g .words))) [
-      | inl u ↦ rw (growth-spanned u) (stays (λ z. u))
-      | inr m ↦ rw (growth-grows l m) (grows l m)
+      | inl u ↦ inl (growing-spanned u, λ z. u)
+      | inr m ↦ inr (growing-more l m, l, m)
     ]
   ]
 
@@ -141,7 +134,7 @@ module _ (g : Layout) (fit : Fits g) (b : List ℕ) (t : T (accepted g b)) (f : 
     shown-same = pages-same g fit b t fresh 0 lim supply ps fits
 
     value : ℕ
-    value = growthRoot g fresh b f h
+    value = grownRoot g fresh b f h
 
     -- the board with the commit
     done : List ℕ
@@ -217,10 +210,6 @@ module _ (g : Layout) (fit : Fits g) (b : List ℕ) (t : T (accepted g b)) (f : 
     unfolding step store committed done c₁ value
     growth-size = sym size-done
 
-    pub growth-length : length (committed b (growthStep g fresh b f h)) ≡ length b
-    unfolding step store committed done c₁ value
-    growth-length = sym len
-
     -- the inode is where it was
     pub growth-inode : inodeBlock g (committed b (growthStep g fresh b f h)) ≡ inodeBlock g b
     unfolding step store committed done c₁ value
@@ -230,6 +219,10 @@ module _ (g : Layout) (fit : Fits g) (b : List ℕ) (t : T (accepted g b)) (f : 
     pub growth-address : rootAddress g (committed b (growthStep g fresh b f h)) f ≡ rootAddress g b f
     unfolding step store committed done c₁ value
     growth-address = sym (address-same ∙ spot-address g fit c₁ (facts-same g fit b c₁ t shown-same) f f-lt (rootAddress g b f) value commit-spot f f-lt)
+
+    pub growth-root : root g (committed b (growthStep g fresh b f h)) f ≡ grownRoot g fresh b f h
+    unfolding step store committed done c₁ value
+    growth-root = root-done
 
     pub growth-height : root g (committed b (growthStep g fresh b f h)) f % g .words ≡ h
     unfolding step store committed done c₁ value

@@ -18,14 +18,14 @@ use Rattle.model.specs.Fresh.{Page, freshNeed, stored, build}
 use Rattle.model.specs.Change.{leafPage}
 use Rattle.model.proofs.Cases.{decide, and-both}
 use Rattle.model.proofs.Counting.{one, occ}
-use Rattle.model.proofs.Perform.{All, address-block}
+use Rattle.model.proofs.Perform.{All, address-block, address-place}
 use Rattle.model.proofs.Agree.{agree, frame, cell-away}
 use Rattle.model.proofs.Splice.{Small, Reach, past-span}
 use Rattle.model.specs.GivenUp.{pathBlocks}
 use Rattle.model.proofs.Paths.{touched-new}
 use Rattle.model.proofs.Changed.{Changed}
 use Rattle.model.proofs.Built.{held, used, used-add, used-one, length-build, held-left, held-right, build-changed}
-use Rattle.model.proofs.Shown.{Same, words-pos, count-kept, inode-kept, trailer-kept, leaf-kept, leaf-sound-kept, inode-live, leaf-live, file-live, leaf-of, slot}
+use Rattle.model.proofs.Shown.{Same, words-pos, count-kept, inode-kept, trailer-kept, leaf-kept, leaf-sound-kept, inode-live, leaf-live, file-live, leaf-of, slot, root-block}
 use Rattle.model.proofs.Accepting.{Ranged, in-range, accepted-parts, Facts, facts, address-on-board}
 use Rattle.model.proofs.Commits.{Written, spliced, written-commit, Others, one-file, OneFile, one-file-counts}
 use Rattle.model.proofs.Apart.{inode-not-leaf, file-not-inode, inodes-apart}
@@ -47,7 +47,7 @@ module _ (g : Layout) (fresh : ℕ → ℕ) (b : List ℕ) (f o : ℕ) (new : Li
 
   -- those pages and the copy of the leaf
   abbrev shadowPages : List Page
-  shadowPages = treePages ++ (leafPage g fresh b f newRoot (max (size g b f) (o + length new)) ∷ [])
+  shadowPages = treePages ++ (leafPage (g .words) b (rootAddress g b f) newRoot (max (size g b f) (o + length new)) ∷ [])
 
   -- they are stored, then the inode pointer
   abbrev pub leafStep : Step
@@ -59,26 +59,31 @@ module _ (g : Layout) (fresh : ℕ → ℕ) (b : List ℕ) (f o : ℕ) (new : Li
     pages = shadowPages;
     others = [];
     is = sym (append-nil (stored (g .words) fresh shadowPages c));
-    count = omega (arith, length-append treePages (leafPage g fresh b f newRoot (max (size g b f) (o + length new)) ∷ []));
+    count = omega (arith, length-append treePages (leafPage (g .words) b (rootAddress g b f) newRoot (max (size g b f) (o + length new)) ∷ []));
     others-live = tt;
     commit-live = rw (address-block (g .words) (inodeBlock g b) (f / g .inodes) (omega (arith, leaf-of g fit f f-lt, fit .leaves-fit))) (inode-live g b);
   }
 
 -- ---- The copy of the leaf
 
-module _ (g : Layout) (fresh : ℕ → ℕ) (b : List ℕ) (f r s : ℕ) where
-  copy-root : leafPage g fresh b f r s (2 * (f % g .inodes)) ≡ r
-  unfolding leafPage
-  copy-root = rw (eq-eqb (2 * (f % g .inodes)) (2 * (f % g .inodes)) refl)
+module _ (g : Layout) (fit : Fits g) (b : List ℕ) (f r s : ℕ) where
+  -- the inode's place in its leaf
+  place : rootAddress g b f % g .words ≡ 2 * (f % g .inodes)
+  unfolding rootAddress
+  place = address-place (g .words) (leaf g b (f / g .inodes)) (2 * (f % g .inodes)) (omega (arith, slot g fit f))
 
-  copy-size : leafPage g fresh b f r s (2 * (f % g .inodes) + 1) ≡ s
+  copy-root : leafPage (g .words) b (rootAddress g b f) r s (2 * (f % g .inodes)) ≡ r
   unfolding leafPage
-  copy-size = rw (ne-eqb (2 * (f % g .inodes) + 1) (2 * (f % g .inodes)) (omega arith), eq-eqb (2 * (f % g .inodes) + 1) (2 * (f % g .inodes) + 1) refl)
+  copy-root = rw (place, eq-eqb (2 * (f % g .inodes)) (2 * (f % g .inodes)) refl)
+
+  copy-size : leafPage (g .words) b (rootAddress g b f) r s (2 * (f % g .inodes) + 1) ≡ s
+  unfolding leafPage
+  copy-size = rw (place, ne-eqb (2 * (f % g .inodes) + 1) (2 * (f % g .inodes)) (omega arith), eq-eqb (2 * (f % g .inodes) + 1) (2 * (f % g .inodes) + 1) refl)
 
   -- the words of the other inodes are those of the old leaf
-  copy-other : (j : ℕ) → j ≢ 2 * (f % g .inodes) → j ≢ 2 * (f % g .inodes) + 1 → leafPage g fresh b f r s j ≡ cell (g .words) b (leaf g b (f / g .inodes)) j
+  copy-other : (j : ℕ) → j ≢ 2 * (f % g .inodes) → j ≢ 2 * (f % g .inodes) + 1 → leafPage (g .words) b (rootAddress g b f) r s j ≡ cell (g .words) b (leaf g b (f / g .inodes)) j
   unfolding leafPage
-  copy-other j d e = rw (ne-eqb j (2 * (f % g .inodes)) d, ne-eqb j (2 * (f % g .inodes) + 1) e)
+  copy-other j d e = rw (place, root-block g fit b f, ne-eqb j (2 * (f % g .inodes)) d, ne-eqb j (2 * (f % g .inodes) + 1) e)
 
 -- ---- The words of an inode, as words of its leaf
 
@@ -115,7 +120,7 @@ module _ (g : Layout) (fit : Fits g) (b : List ℕ) (t : T (accepted g b)) (f : 
   m = max (size g b f) (o + length new)
 
   abbrev copy : Page
-  copy = leafPage g fresh b f r m
+  copy = leafPage (g .words) b (rootAddress g b f) r m
 
   -- which leaf it is, the block of the copy, and the address of the commit
   abbrev l₀ : ℕ
@@ -222,10 +227,10 @@ module _ (g : Layout) (fit : Fits g) (b : List ℕ) (t : T (accepted g b)) (f : 
 
   -- the inodes
   root-new : root g b₂ f ≡ r
-  root-new = root-word g b₂ f ∙ copy-word (2 * (f % g .inodes)) (omega (arith, slot g fit f)) ∙ copy-root g fresh b f r m
+  root-new = root-word g b₂ f ∙ copy-word (2 * (f % g .inodes)) (omega (arith, slot g fit f)) ∙ copy-root g fit b f r m
 
   size-new : size g b₂ f ≡ m
-  size-new = size-word g b₂ f ∙ copy-word (2 * (f % g .inodes) + 1) (slot g fit f) ∙ copy-size g fresh b f r m
+  size-new = size-word g b₂ f ∙ copy-word (2 * (f % g .inodes) + 1) (slot g fit f) ∙ copy-size g fit b f r m
 
   -- two files of one leaf have different words there
   slots-apart : (i d e : ℕ) → i < files g → i ≢ f → i / g .inodes ≡ l₀ → d ≤ 1 → e ≤ 1 → 2 * (i % g .inodes) + d ≢ 2 * (f % g .inodes) + e
@@ -235,7 +240,7 @@ module _ (g : Layout) (fit : Fits g) (b : List ℕ) (t : T (accepted g b)) (f : 
   inode-stays : (i : ℕ) → i < files g → i ≢ f → (d : ℕ) → d ≤ 1
       → cell (g .words) b (leaf g b (i / g .inodes)) (2 * (i % g .inodes) + d) ≡ cell (g .words) b₂ (leaf g b₂ (i / g .inodes)) (2 * (i % g .inodes) + d)
   inode-stays i u ne d v = elim (decide (i / g .inodes) l₀) [
-    | inl e ↦ rw e (sym (copy-word (2 * (i % g .inodes) + d) (omega (arith, slot g fit i)) ∙ copy-other g fresh b f r m (2 * (i % g .inodes) + d)
+    | inl e ↦ rw e (sym (copy-word (2 * (i % g .inodes) + d) (omega (arith, slot g fit i)) ∙ copy-other g fit b f r m (2 * (i % g .inodes) + d)
         (λ x. slots-apart i d 0 u ne e v (omega arith) (x ∙ sym (add-zero (2 * (f % g .inodes))))) (slots-apart i d 1 u ne e v (omega arith))))
     | inr n ↦ live-stays (leaf g b (i / g .inodes)) (leaf-live g b (i / g .inodes) (leaf-of g fit i u)) (inode-not-leaf g b (ok .once) (i / g .inodes) (leaf-of g fit i u))
         (2 * (i % g .inodes) + d) (omega (arith, slot g fit i)) ∙ ap (λ (x : ℕ). cell (g .words) b₂ x (2 * (i % g .inodes) + d)) (leaf-stays (i / g .inodes) (leaf-of g fit i u) n)

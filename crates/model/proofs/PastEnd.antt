@@ -1,6 +1,7 @@
 -- Writing past the end: whichever way such a write goes, and with growth before it, the path to the last byte before it is fresh and holes are null.
-use mathlib.Core.Path.{_≡_, refl, sym, ap, _∙_, subst}
+use mathlib.Core.Path.{_≡_, refl, ap, _∙_}
 use mathlib.Core.Logic.{inl, inr}
+use mathlib.Core.Bool.{false}
 use mathlib.Core.List.{List, [], _∷_}
 use Prim.Native.Nat.{ℕ, zero, suc, _+_, _-_, _/_, _%_, _≤_, _<_}
 use native.Mathlib.Omega.{arith}
@@ -8,15 +9,15 @@ use lib.ListN.{length, getD, take, drop}
 use lib.Dec.{T, eqb}
 use borrow.Author.Tests.{lt-ltb, le-ltb, lt-leb, eq-eqb, ne-eqb}
 use Rattle.model.specs.declared.WalkEnd.the-variants.{Hole}
-use Rattle.model.specs.Lists.{concat, member}
+use Rattle.model.specs.Lists.{member}
 use Rattle.model.specs.Layout.{Layout, Fits, files}
 use Rattle.model.specs.Tree.{live, span, least}
-use Rattle.model.specs.Board.{rootWalk, greatest, root, size, walkTo, contents, free, accepted}
+use Rattle.model.specs.Board.{rootWalk, greatest, root, size, sizeAddress, inodeOf, walkTo, contents, free, accepted}
 use Rattle.model.specs.Store.{performed, stores, fenced}
-use Rattle.model.specs.Plan.{Plan, plan, Step, planEpochs, afterwards, pairs}
+use Rattle.model.specs.Plan.{Plan, plan, planEpochs, afterwards, pairs}
 use Rattle.model.specs.Fresh.{freshNeed, need, build}
 use Rattle.model.specs.InPlace.{atBlock}
-use Rattle.model.specs.Change.{growthTo, growth, singleBlock, isTail, emptyTailTo, emptyTail, tail, shadowWithLength, chosenWay, writePlan}
+use Rattle.model.specs.Change.{growing, growthTo, growth, singleBlock, isTail, emptyTailTo, emptyTail, tail, shadowWithLength, chosenWay, grownPlan, somePlan, writePlan}
 use Rattle.model.specs.Calls.{lowest, writeFaults, write}
 use Rattle.model.specs.Cut.{called, planFor, overwritten}
 use Rattle.model.specs.Claims.{PastEnd, PastEndRule}
@@ -32,16 +33,15 @@ use Rattle.model.proofs.Supplied.{Supply, supply-lowest}
 use Rattle.model.proofs.Steps.{committed, allCommitted, performed-steps}
 use Rattle.model.proofs.SizeWays.{empty-height, empty-block, empty-held}
 use Rattle.model.proofs.LeafWay.{treePages, leafStep, leaf-held, leaf-height, leaf-block, leaf-size}
-use Rattle.model.proofs.GrowthWay.{growthStep, growth-performed, growth-either, growth-good, growth-size, growth-reaches, growth-supply, growth-walks}
-use Rattle.model.proofs.Ways.{taken-from}
-use Rattle.model.proofs.Plans.{after, write-good}
+use Rattle.model.proofs.GrowthWay.{growthStep, growing-cases, growth-good, growth-size, growth-reaches, growth-supply, growth-walks}
+use Rattle.model.proofs.Plans.{growth-first, still-plan, growth-is, grown-plan, write-good}
 use Rattle.model.proofs.Rules.{write-passed, plan-stores}
 
 -- ---- Which way it goes
 
 module _ (g : Layout) (fresh : ℕ → ℕ) (b : List ℕ) (f o : ℕ) (new : List ℕ) (c : ℕ) (past : size g b f < o) where
   abbrev way : Plan
-  way = chosenWay g fresh b f (singleBlock g b f o (o + length new)) o new c
+  way = chosenWay g fresh b (inodeOf g b f) o new c
 
   -- no single word
   none-single : 0 < length new → singleBlock g b f o (o + length new) ≡ Hole
@@ -49,14 +49,14 @@ module _ (g : Layout) (fresh : ℕ → ℕ) (b : List ℕ) (f o : ℕ) (new : Li
   none-single some = rw (lt-leb (o + length new) (size g b f) (omega arith))
 
   -- *with size 0 it goes the tail way*
-  empty-way : size g b f ≡ 0 → 0 < length new → way ≡ emptyTail g fresh b f o new c
+  empty-way : size g b f ≡ 0 → way ≡ emptyTail g fresh b (inodeOf g b f) o new c
   unfolding chosenWay isTail tail live
-  empty-way z some = rw (none-single some) (rw z)
+  empty-way z = rw z
 
   -- *otherwise as shadow with length*
-  leaf-way : 0 < size g b f → 0 < length new → way ≡ shadowWithLength g fresh b f o new c
+  leaf-way : 0 < size g b f → way ≡ shadowWithLength g fresh b (inodeOf g b f) o new c
   unfolding chosenWay isTail
-  leaf-way l some = rw (none-single some) (rw (live-some (size g b f) l, ne-eqb o (size g b f) (omega arith)) (rw (lt-leb (o + length new) (size g b f) (omega arith))))
+  leaf-way l = rw (live-some (size g b f) l, ne-eqb o (size g b f) (omega arith)) (rw (lt-leb (o + length new) (size g b f) (omega arith)))
 
 -- ---- What it leaves
 
@@ -85,8 +85,8 @@ module _ (g : Layout) (fit : Fits g) (b : List ℕ) (t : T (accepted g b)) (f : 
     | inr within ↦ rw (lt-ltb i (span W (root g b f % W)) within, z, walk-dead W b (root g b f % W) (root g b f / W) i)
   ]
 
-  past-empty : size g b f ≡ 0 → Past (emptyTail g fresh b f o new c)
-  unfolding emptyTailTo emptyTail plan allCommitted atBlock
+  past-empty : size g b f ≡ 0 → Past (emptyTail g fresh b (inodeOf g b f) o new c)
+  unfolding emptyTailTo emptyTail plan allCommitted atBlock sizeAddress
   past-empty z room among =
       let h : ℕ = least W (g .height) (o + length new) in
       let count : freshNeed W b h 0 0 o (length new) ≡ need W h o (length new) = fresh-quiet W b h 0 0 o (length new) (inl refl) in
@@ -103,7 +103,7 @@ module _ (g : Layout) (fit : Fits g) (b : List ℕ) (t : T (accepted g b)) (f : 
         }) (λ l. absurd (omega arith)));
       }
 
-  past-leaf : 0 < size g b f → Past (shadowWithLength g fresh b f o new c)
+  past-leaf : 0 < size g b f → Past (shadowWithLength g fresh b (inodeOf g b f) o new c)
   unfolding shadowWithLength plan allCommitted walkTo rootWalk
   past-leaf l room among =
       let h : ℕ = root g b f % W in
@@ -133,8 +133,8 @@ module _ (g : Layout) (fit : Fits g) (b : List ℕ) (t : T (accepted g b)) (f : 
 
   way-past : Past (way g fresh b f o new c past)
   way-past = elim (split (size g b f) 0) [
-    | inl z ↦ let e : size g b f ≡ 0 = omega arith in rw (empty-way g fresh b f o new c past e some) (past-empty e)
-    | inr l ↦ rw (leaf-way g fresh b f o new c past l some) (past-leaf l)
+    | inl z ↦ let e : size g b f ≡ 0 = omega arith in rw (empty-way g fresh b f o new c past e) (past-empty e)
+    | inr l ↦ rw (leaf-way g fresh b f o new c past l) (past-leaf l)
   ]
 
 -- ---- With growth before it
@@ -171,53 +171,64 @@ module _ (g : Layout) (fit : Fits g) (b : List ℕ) (t : T (accepted g b)) (f : 
   abbrev lim : ℕ
   lim = length (free g b)
 
+  lent : Supply g b fresh 0 lim
+  lent = supply-lowest g b
+
   among : (k n : ℕ) → n ≤ lim → (i : ℕ) → k ≤ i → i < n → T (member (fresh i) (drop k (take n (free g b))))
   unfolding lowest
   among k n le i u l = member-drop (free g b) n k i u l (omega arith)
 
   module _ (new : List ℕ) (some : 0 < length new) (small : Small new) (most : o + length new ≤ greatest g) where
-    -- growth p, then the way that follows
-    abbrev whole : Plan → Plan
-    whole p = after g fit b t f f-lt o fresh lim (supply-lowest g b) new some small most p
+    abbrev e : ℕ
+    e = o + length new
 
-    abbrev Wanted : Plan → Type 0
-    Wanted p = whole p .taken ≤ lim → PastEnd g b (allCommitted b (whole p .steps)) f o (length new) (drop (p .taken) (take (whole p .taken) (free g b)))
+    -- after growth p, the plan q
+    abbrev Wanted : Plan → Plan → Type 0
+    Wanted p q = q .taken ≤ lim → PastEnd g b (allCommitted b (q .steps)) f o (length new) (drop (p .taken) (take (q .taken) (free g b)))
 
-    no-growth : (0 < size g b f → o + length new ≤ span (g .words) (root g b f % g .words)) → Wanted (plan [] 0)
-    unfolding plan afterwards planEpochs concat performed
-    no-growth reach room = way-past g fit b t f f-lt o new some small most reach fresh 0 lim (supply-lowest g b) past _ room (among 0 _ room)
+    no-growth : growing g b f e ≡ false → (0 < size g b f → e ≤ span (g .words) (root g b f % g .words)) → Wanted (growth g fresh b f e) (grownPlan g fresh b f o new)
+    unfolding growth plan
+    no-growth still reach = rw (still, still-plan g fit b t f f-lt o fresh lim lent new some small most still)
+        (λ room. way-past g fit b t f f-lt o new some small most reach fresh 0 lim lent past _ room (among 0 _ room))
 
-    -- growth keeps walks that end at a block
-    walks-kept : 0 < size g b f → span (g .words) (root g b f % g .words) < o + length new → growthTo g fresh b f (least (g .words) (g .height) (o + length new)) .taken ≤ lim
-        → (i : ℕ) → T (atBlock (walkTo g b f i)) → T (atBlock (walkTo g (committed b (growthStep g fresh b f (least (g .words) (g .height) (o + length new)))) f i))
-    unfolding atBlock
-    walks-kept l more enough i x = elim (split (span (g .words) (root g b f % g .words)) i) [
-      | inl beyond ↦ absurd (rw (beyond-hole g b f i beyond) at x)
-      | inr within ↦ rw (growth-walks g fit b t f f-lt l fresh lim (supply-lowest g b) (o + length new) most more enough i within) x
-    ]
+    module _ (l : 0 < size g b f) (more : span (g .words) (root g b f % g .words) < e) where
+      abbrev p : Plan
+      p = growthTo g fresh b f (least (g .words) (g .height) e)
 
-    grows : 0 < size g b f → span (g .words) (root g b f % g .words) < o + length new → Wanted (growthTo g fresh b f (least (g .words) (g .height) (o + length new)))
-    unfolding growthTo plan afterwards allCommitted
-    grows l more room =
-        let e : ℕ = o + length new in
-        let p : Plan = growthTo g fresh b f (least (g .words) (g .height) e) in
-        let g-step : Step = growthStep g fresh b f (least (g .words) (g .height) e) in
-        let grown : List ℕ = performed b (concat (planEpochs (p .steps))) in
-        let enough : p .taken ≤ lim = omega (arith, room, taken-from g fresh grown f (singleBlock g grown f o e) o new (p .taken)) in
-        let lent = supply-lowest g b in
-        let c : List ℕ = committed b g-step in
-        let sizes : size g c f ≡ size g b f = growth-size g fit b t f f-lt l fresh lim lent e most more enough in
-        subst (λ (y : List ℕ). let q : Plan = chosenWay g fresh y f (singleBlock g y f o e) o new (p .taken) in
-        q .taken ≤ lim → PastEnd g b (allCommitted c (q .steps)) f o (length new) (drop (p .taken) (take (q .taken) (free g b))))
-        (sym (growth-performed g fresh b f (least (g .words) (g .height) e)))
-        (λ enough′. past-from g b c _ f o (length new) _ sizes (walks-kept l more enough)
-        (way-past g fit c (growth-good g fit b t f f-lt l fresh lim lent e most more enough .outcome .board) f f-lt o new some small most
-        (λ z. growth-reaches g fit b t f f-lt l fresh lim lent e most more enough) fresh (p .taken) lim (growth-supply g fit b t f f-lt l fresh lim lent e most more enough)
-        (rw sizes past) _ enough′ (among (p .taken) _ enough′)))
-        room
+      abbrev c : List ℕ
+      c = committed b (growthStep g fresh b f (least (g .words) (g .height) e))
 
-    past-some : Wanted (growth g fresh b f (o + length new))
-    past-some = growth-either g fresh b f (o + length new) Wanted no-growth grows
+      module _ (enough : p .taken ≤ lim) where
+        -- growth keeps walks that end at a block
+        walks-kept : (i : ℕ) → T (atBlock (walkTo g b f i)) → T (atBlock (walkTo g c f i))
+        unfolding atBlock
+        walks-kept i x = elim (split (span (g .words) (root g b f % g .words)) i) [
+          | inl beyond ↦ absurd (rw (beyond-hole g b f i beyond) at x)
+          | inr within ↦ rw (growth-walks g fit b t f f-lt l fresh lim lent e most more enough i within) x
+        ]
+
+        after-growth : Wanted p (afterwards p (chosenWay g fresh c (inodeOf g c f) o new (p .taken)))
+        unfolding growthTo plan afterwards allCommitted
+        after-growth room =
+            let sizes : size g c f ≡ size g b f = growth-size g fit b t f f-lt l fresh lim lent e most more enough in
+            past-from g b c _ f o (length new) _ sizes walks-kept
+            (way-past g fit c (growth-good g fit b t f f-lt l fresh lim lent e most more enough .outcome .board) f f-lt o new some small most
+            (λ z. growth-reaches g fit b t f f-lt l fresh lim lent e most more enough) fresh (p .taken) lim (growth-supply g fit b t f f-lt l fresh lim lent e most more enough)
+            (rw sizes past) _ room (among (p .taken) _ room))
+
+      grows : Wanted (growth g fresh b f e) (grownPlan g fresh b f o new)
+      grows room =
+          let is : growth g fresh b f e ≡ p = growth-is g fit b t f f-lt o fresh lim lent new some small most l more in
+          let enough : p .taken ≤ lim = omega (arith, room, growth-first g fresh b f o new, ap (λ (x : Plan). x .taken) is) in
+          let plan-is = grown-plan g fit b t f f-lt o fresh lim lent new some small most l more enough in
+          rw (is, plan-is) (after-growth enough (rw plan-is at room))
+
+    past-some : Wanted (growth g fresh b f e) (somePlan g fresh b f (singleBlock g b f o e) o new)
+    unfolding somePlan
+    past-some = rw (none-single g fresh b f o new 0 past some) (elim (growing-cases g b f e) [
+      | inl c ↦ no-growth (c .0) (c .1)
+      | inr c ↦ grows (c .1) (c .2)
+    ])
 
   -- the plan, whatever is written
   plan-past : (new : List ℕ) → Small new → o + length new ≤ greatest g → 0 < length (pairs (writePlan g fresh b f o new)) → writePlan g fresh b f o new .taken ≤ lim

@@ -1,6 +1,7 @@
 -- Every plan of a length change and of a write is made of good steps.
-use mathlib.Core.Path.{_≡_, refl, sym, ap, _∙_, subst}
+use mathlib.Core.Path.{_≡_, refl, sym, ap, _∙_}
 use mathlib.Core.Logic.{_↔_, inl, inr}
+use mathlib.Core.Bool.{false}
 use mathlib.Core.List.{List, [], _∷_, _++_, append-nil}
 use Prim.Native.Nat.{ℕ, zero, suc, _+_, _-_, _*_, _/_, _%_, _≤_, _<_}
 use native.Mathlib.Omega.{arith}
@@ -9,20 +10,23 @@ use lib.ListN.{length, take, replicate}
 use lib.Seq.{take-all}
 use lib.Dec.{T}
 use borrow.Author.Tests.{lt-ltb, le-ltb, eq-eqb, ne-eqb}
+use Rattle.model.specs.declared.WalkEnd.{WalkEnd}
+use Rattle.model.specs.declared.WalkEnd.the-variants.{Block, Hole}
 use Rattle.model.specs.Lists.{concat, sum}
 use Rattle.model.specs.Layout.{Layout, Fits, files}
 use Rattle.model.specs.Tree.{span, least}
-use Rattle.model.specs.Board.{greatest, rootAddress, sizeAddress, root, size, contents, liveBlocks, accepted}
+use Rattle.model.specs.Board.{greatest, rootAddress, sizeAddress, root, size, inodeOf, contents, liveBlocks, accepted}
 use Rattle.model.specs.Store.{Store, store, performed}
 use Rattle.model.specs.Plan.{Plan, plan, Step, step, planEpochs, afterwards}
 use Rattle.model.specs.Fresh.{stored}
 use Rattle.model.specs.InPlace.{inPlace}
-use Rattle.model.specs.Change.{growthTo, growth, singleBlock, chosenWay, writePlan, cleared, lengthPlan}
-use Rattle.model.specs.GivenUp.{wayGives, lengthGives, writeGives}
+use Rattle.model.specs.Change.{growing, growthTo, growth, grownInode, singleBlock, singleWord, chosenWay, grownPlan, somePlan, writePlan, cleared, lengthPlan}
+use Rattle.model.specs.GivenUp.{wayGives, lengthGives, someGives, writeGives}
 use Rattle.model.specs.Cut.{overwritten}
 use Rattle.model.proofs.Cases.{split, decide}
 use Rattle.model.proofs.Counting.{occ}
 use Rattle.model.proofs.Perform.{All}
+use Rattle.model.proofs.Descent.{hole≢block}
 use Rattle.model.proofs.Splice.{Small}
 use Rattle.model.proofs.Built.{used, used-add}
 use Rattle.model.proofs.Shown.{words-pos, leaf-of, leaf-live, root-block, size-block}
@@ -31,8 +35,9 @@ use Rattle.model.proofs.Steps.{committed, allCommitted}
 use Rattle.model.proofs.GoodSteps.{GoodStep, GoodTurn, GoodSteps}
 use Rattle.model.proofs.Taking.{Takes, blocksOf, takes-blocks, steps-blocks, in-place-live}
 use Rattle.model.proofs.SizeWays.{shorten-good, lengthen-empty-good, lengthen-good}
-use Rattle.model.proofs.GrowthWay.{growthStep, growth-performed, growth-takes, growth-counts, growth-either, growth-good, growth-size, growth-reaches, growth-supply}
-use Rattle.model.proofs.Ways.{length-contents, lengthened, spliced-cuts, spliced-lengthens, OneStep, way-good, taken-from}
+use Rattle.model.proofs.GrowthWay.{growthStep, growth-performed, growth-takes, growth-counts, growing-more, growing-cases, growth-good, growth-reaches, growth-supply}
+use Rattle.model.proofs.GrownBoard.{single-past, grown-board}
+use Rattle.model.proofs.Ways.{length-contents, lengthened, spliced-cuts, spliced-lengthens, OneStep, single-way, way-good, taken-from}
 
 -- ---- Good plans
 
@@ -154,65 +159,109 @@ module _ (g : Layout) (fit : Fits g) (b : List ℕ) (t : T (accepted g b)) (f : 
 
 -- ---- Write
 
+-- the plan takes at least what growth takes
+pub growth-first : (g : Layout) (fresh : ℕ → ℕ) (b : List ℕ) (f o : ℕ) (new : List ℕ) → growth g fresh b f (o + length new) .taken ≤ grownPlan g fresh b f o new .taken
+unfolding grownPlan afterwards plan
+growth-first g fresh b f o new = taken-from g fresh _ (grownInode g fresh b f (o + length new)) o new (growth g fresh b f (o + length new) .taken)
+
 module _ (g : Layout) (fit : Fits g) (b : List ℕ) (t : T (accepted g b)) (f : ℕ) (f-lt : f < files g) (o : ℕ)
     (fresh : ℕ → ℕ) (lim : ℕ) (supply : Supply g b fresh 0 lim) where
   module _ (new : List ℕ) (some : 0 < length new) (small : Small new) (most : o + length new ≤ greatest g) where
-    -- growth p, then the way that follows on the grown board
-    abbrev pub after : Plan → Plan
-    after p = let grown : List ℕ = performed b (concat (planEpochs (p .steps))) in afterwards p (chosenWay g fresh grown f (singleBlock g grown f o (o + length new)) o new (p .taken))
+    abbrev e : ℕ
+    e = o + length new
 
-    -- the way on board c, once k fresh blocks are taken
+    -- the way on board c, once k fresh blocks are taken, and the blocks that it gives up
     abbrev way : List ℕ → ℕ → Plan
-    way c k = chosenWay g fresh c f (singleBlock g c f o (o + length new)) o new k
+    way c k = chosenWay g fresh c (inodeOf g c f) o new k
+
+    abbrev gives : List ℕ → List ℕ
+    gives c = wayGives g c (inodeOf g c f) o new
 
     abbrev wanted : List ℕ
     wanted = overwritten o new (contents g b f)
 
-    -- the blocks that the way on board c gives up
-    abbrev gives : List ℕ → List ℕ
-    gives c = wayGives g c f (singleBlock g c f o (o + length new)) o new
-
     abbrev Wanted : Plan → List ℕ → Type 0
     Wanted p given = p .taken ≤ lim → GoodPlan g b f fresh wanted given p
 
-    -- the board that growth p leaves
-    abbrev grownBy : Plan → List ℕ
-    grownBy p = performed b (concat (planEpochs (p .steps)))
+    -- a single word, before which there is no growth
+    single-reach : (K : ℕ) → singleBlock g b f o e ≡ Block K → e ≤ span (g .words) (root g b f % g .words)
+    single-reach K is = elim (split e (span (g .words) (root g b f % g .words))) [
+      | inl u ↦ u
+      | inr m ↦ absurd (hole≢block K (sym (single-past g b f o e (omega arith) m) ∙ is))
+    ]
 
-    no-growth : (0 < size g b f → o + length new ≤ span (g .words) (root g b f % g .words)) → Wanted (after (plan [] 0)) (gives (grownBy (plan [] 0)))
-    unfolding plan afterwards planEpochs concat performed
-    no-growth reach room =
-        let w : OneStep g b f fresh 0 wanted (gives b) (way b 0) = way-good g fit b t f f-lt o new some small most reach fresh 0 lim supply (singleBlock g b f o (o + length new)) refl room in
-        one-plan g fit b f fresh wanted (gives b) (way b 0) w
+    single-plan : (K : ℕ) → singleBlock g b f o e ≡ Block K → Wanted (singleWord g b K o new) []
+    single-plan K is room = one-plan g fit b f fresh wanted [] (singleWord g b K o new)
+        (single-way g fit b t f f-lt o new some small most (λ l. single-reach K is) fresh 0 lim supply refl K is room)
 
-    -- the way that follows, on a board c where the file reads the same
-    follows : (c : List ℕ) → T (accepted g c) → size g c f ≡ size g b f → contents g c f ≡ contents g b f → o + length new ≤ span (g .words) (root g c f % g .words)
+    -- no growth
+    pub still-plan : growing g b f e ≡ false → grownPlan g fresh b f o new ≡ way b 0
+    unfolding grownPlan growth grownInode plan afterwards planEpochs concat performed
+    still-plan still = rw still
+
+    still-gives : growing g b f e ≡ false → someGives g fresh b f Hole o new ≡ gives b
+    unfolding someGives growth grownInode plan planEpochs concat performed
+    still-gives still = rw still
+
+    no-growth : growing g b f e ≡ false → (0 < size g b f → e ≤ span (g .words) (root g b f % g .words)) → Wanted (grownPlan g fresh b f o new) (someGives g fresh b f Hole o new)
+    no-growth still reach = rw (still-plan still, still-gives still)
+        (λ room. one-plan g fit b f fresh wanted (gives b) (way b 0) (way-good g fit b t f f-lt o new some small most reach fresh 0 lim supply room))
+
+    -- growth, and the way that follows on a board where the file reads the same
+    follows : (c : List ℕ) → T (accepted g c) → contents g c f ≡ contents g b f → e ≤ span (g .words) (root g c f % g .words)
         → (k : ℕ) → Supply g c fresh k lim → way c k .taken ≤ lim → OneStep g c f fresh k wanted (gives c) (way c k)
-    follows c u sizes reads reach k supply room = rw (← reads) (way-good g fit c u f f-lt o new some small most (λ l. reach) fresh k lim supply (singleBlock g c f o (o + length new)) refl room)
+    follows c u reads reach k supply room = rw (← reads) (way-good g fit c u f f-lt o new some small most (λ l. reach) fresh k lim supply room)
 
-    grows : 0 < size g b f → span (g .words) (root g b f % g .words) < o + length new → Wanted (after (growthTo g fresh b f (least (g .words) (g .height) (o + length new)))) (gives (grownBy (growthTo g fresh b f (least (g .words) (g .height) (o + length new)))))
-    unfolding growthTo plan afterwards
-    grows l more room =
-        let e : ℕ = o + length new in
-        let p : Plan = growthTo g fresh b f (least (g .words) (g .height) e) in
-        let g-step : Step = growthStep g fresh b f (least (g .words) (g .height) e) in
-        let grown : List ℕ = performed b (concat (planEpochs (p .steps))) in
-        let enough : p .taken ≤ lim = omega (arith, room, taken-from g fresh grown f (singleBlock g grown f o e) o new (p .taken)) in
-        let first : GoodStep g b f g-step (contents g b f) = growth-good g fit b t f f-lt l fresh lim supply e most more enough in
-        let w : OneStep g (committed b g-step) f fresh (p .taken) wanted (gives grown) (way grown (p .taken)) =
-        subst (λ (y : List ℕ). way y (p .taken) .taken ≤ lim → OneStep g (committed b g-step) f fresh (p .taken) wanted (gives y) (way y (p .taken)))
-        (sym (growth-performed g fresh b f (least (g .words) (g .height) e)))
-        (follows (committed b g-step) (first .outcome .board) (growth-size g fit b t f f-lt l fresh lim supply e most more enough) (first .outcome .reads)
-        (growth-reaches g fit b t f f-lt l fresh lim supply e most more enough) (p .taken) (growth-supply g fit b t f f-lt l fresh lim supply e most more enough))
-        room in
-        two-plan g fit b f fresh wanted g-step (p .taken) first (growth-takes g fit fresh b f (least (g .words) (g .height) e) f-lt)
-        (growth-counts g fit b t f f-lt l fresh lim supply e most more enough) (gives grown) (way grown (p .taken)) w (taken-from g fresh grown f (singleBlock g grown f o e) o new (p .taken))
+    module _ (l : 0 < size g b f) (more : span (g .words) (root g b f % g .words) < e) where
+      abbrev p : Plan
+      p = growthTo g fresh b f (least (g .words) (g .height) e)
 
-    pub write-some : Wanted (after (growth g fresh b f (o + length new))) (gives (grownBy (growth g fresh b f (o + length new))))
-    write-some = growth-either g fresh b f (o + length new) (λ p. Wanted (after p) (gives (grownBy p))) no-growth grows
+      abbrev g-step : Step
+      g-step = growthStep g fresh b f (least (g .words) (g .height) e)
+
+      pub growth-is : growth g fresh b f e ≡ p
+      unfolding growth
+      growth-is = rw (growing-more g b f e l more)
+
+      module _ (enough : p .taken ≤ lim) where
+        inode-is : grownInode g fresh b f e ≡ inodeOf g (committed b g-step) f
+        inode-is = rw (growth-is, growth-performed g fresh b f (least (g .words) (g .height) e)) at
+            (grown-board g fit b t f f-lt fresh lim supply o e (omega arith) most (rw growth-is enough) .inode)
+
+        pub grown-plan : grownPlan g fresh b f o new ≡ afterwards p (way (committed b g-step) (p .taken))
+        unfolding grownPlan
+        grown-plan = rw (growth-is, growth-performed g fresh b f (least (g .words) (g .height) e), inode-is)
+
+        grown-gives : someGives g fresh b f Hole o new ≡ gives (committed b g-step)
+        unfolding someGives
+        grown-gives = rw (growth-is, growth-performed g fresh b f (least (g .words) (g .height) e), inode-is)
+
+        after-growth : afterwards p (way (committed b g-step) (p .taken)) .taken ≤ lim
+            → GoodPlan g b f fresh wanted (gives (committed b g-step)) (afterwards p (way (committed b g-step) (p .taken)))
+        unfolding growthTo plan afterwards
+        after-growth room =
+            let first : GoodStep g b f g-step (contents g b f) = growth-good g fit b t f f-lt l fresh lim supply e most more enough in
+            two-plan g fit b f fresh wanted g-step (p .taken) first (growth-takes g fit fresh b f (least (g .words) (g .height) e) f-lt)
+            (growth-counts g fit b t f f-lt l fresh lim supply e most more enough) (gives (committed b g-step)) (way (committed b g-step) (p .taken))
+            (follows (committed b g-step) (first .outcome .board) (first .outcome .reads)
+            (growth-reaches g fit b t f f-lt l fresh lim supply e most more enough) (p .taken) (growth-supply g fit b t f f-lt l fresh lim supply e most more enough) room)
+            (taken-from g fresh (committed b g-step) (inodeOf g (committed b g-step) f) o new (p .taken))
+
+      grows : Wanted (grownPlan g fresh b f o new) (someGives g fresh b f Hole o new)
+      grows room =
+          let enough : p .taken ≤ lim = omega (arith, room, growth-first g fresh b f o new, ap (λ (x : Plan). x .taken) growth-is) in
+          rw (grown-plan enough, grown-gives enough) (after-growth enough (rw (grown-plan enough) at room))
+
+    pub write-some : (end : WalkEnd) → singleBlock g b f o e ≡ end → Wanted (somePlan g fresh b f end o new) (someGives g fresh b f end o new)
+    unfolding somePlan someGives
+    write-some (Block K) is = single-plan K is
+    write-some Hole is = elim (growing-cases g b f e) [
+      | inl c ↦ no-growth (c .0) (c .1)
+      | inr c ↦ grows (c .1) (c .2)
+    ]
 
   pub write-good : (new : List ℕ) → Small new → o + length new ≤ greatest g → writePlan g fresh b f o new .taken ≤ lim
       → GoodPlan g b f fresh (overwritten o new (contents g b f)) (writeGives g fresh b f o new) (writePlan g fresh b f o new)
   unfolding writePlan writeGives plan overwritten
   write-good [] small most room = none-good g fit b f fresh _ refl
-  write-good (x ∷ new) small most room = write-some (x ∷ new) (omega arith) small most room
+  write-good (x ∷ new) small most room = write-some (x ∷ new) (omega arith) small most (singleBlock g b f o (o + suc (length new))) refl room

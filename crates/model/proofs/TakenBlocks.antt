@@ -9,10 +9,11 @@ use native.Mathlib.Nat.{zero-add, div-add-mod'}
 use lib.ListN.{length, getD, take, List·getD-eq-default}
 use lib.Seq.{take-all, take-suc}
 use lib.Dec.{T}
+use Rattle.model.specs.declared.Inode.{Inode}
 use Rattle.model.specs.Lists.{concat, member, sum}
 use Rattle.model.specs.Layout.{Layout, Fits}
 use Rattle.model.specs.Tree.{span, least, cell}
-use Rattle.model.specs.Board.{contents, free, accepted, liveBlocks, blockCount, rootAddress, root, size}
+use Rattle.model.specs.Board.{contents, free, accepted, liveBlocks, blockCount, root, size}
 use Rattle.model.specs.Store.{Store, performed, stores}
 use Rattle.model.specs.Plan.{planEpochs, Plan, pairs, plan}
 use Rattle.model.specs.Fresh.{freshNeed, need}
@@ -87,23 +88,24 @@ module _ (g : Layout) (pos : 0 < g .words) (fresh : ℕ → ℕ) (b : List ℕ) 
   unfolding growthTo plan
   growth-takes-levels h there = length-levels (g .words) fresh (root g b f / g .words) (h - root g b f % g .words) there
 
+module _ (g : Layout) (pos : 0 < g .words) (fresh : ℕ → ℕ) (b : List ℕ) (n : Inode) where
   module _ (new : List ℕ) (c : ℕ) where
-    pub empty-tail-needs : (o : ℕ) → emptyTail g fresh b f o new c .taken ≡ c + need (g .words) (least (g .words) (g .height) (o + length new)) o (length new)
+    pub empty-tail-needs : (o : ℕ) → emptyTail g fresh b n o new c .taken ≡ c + need (g .words) (least (g .words) (g .height) (o + length new)) o (length new)
     unfolding emptyTailTo emptyTail plan
     empty-tail-needs o = ap (λ (x : ℕ). c + x) (length-build-null (g .words) pos b fresh (least (g .words) (g .height) (o + length new)) 0 o new c)
 
-    pub tail-needs : (s o : ℕ) → tail g fresh b f (suc s) o new c .taken ≡ c + tailNeed (g .words) (root g b f % g .words) (suc s) (length new)
+    pub tail-needs : (s o : ℕ) → tail g fresh b n (suc s) o new c .taken ≡ c + tailNeed (g .words) (n .root % g .words) (suc s) (length new)
     unfolding tail plan
-    tail-needs s o = ap (λ (x : ℕ). c + x) (length-tail (g .words) pos b fresh (root g b f % g .words) (root g b f / g .words) (suc s) new c)
+    tail-needs s o = ap (λ (x : ℕ). c + x) (length-tail (g .words) pos b fresh (n .root % g .words) (n .root / g .words) (suc s) new c)
 
     -- for the tree under the word that commits
-    pub inside-needs : (o : ℕ) → o ≤ size g b f → (h′ : ℕ) × (o′ : ℕ) × (shadowInside g fresh b f o new c .taken ≡ c + need (g .words) h′ o′ (length new))
+    pub inside-needs : (o : ℕ) → o ≤ n .size → (h′ : ℕ) × (o′ : ℕ) × (shadowInside g fresh b n o new c .taken ≡ c + need (g .words) h′ o′ (length new))
     unfolding shadowInside plan
     inside-needs o within =
-        let d = descend-need (g .words) pos fresh b (root g b f % g .words) (root g b f / g .words) (size g b f) o new c (rootAddress g b f) within in
+        let d = descend-need (g .words) pos fresh b (n .root % g .words) (n .root / g .words) (n .size) o new c (n .at) within in
         (d .0, d .1, ap (λ (x : ℕ). c + x) (d .2))
 
     -- where o lies past the size, the path to byte s − 1 is counted too
-    pub leaf-needs : (o : ℕ) → shadowWithLength g fresh b f o new c .taken ≡ c + freshNeed (g .words) b (root g b f % g .words) (root g b f / g .words) (size g b f) o (length new) + 1
+    pub leaf-needs : (o : ℕ) → shadowWithLength g fresh b n o new c .taken ≡ c + freshNeed (g .words) b (n .root % g .words) (n .root / g .words) (n .size) o (length new) + 1
     unfolding shadowWithLength plan
-    leaf-needs o = ap (λ (x : ℕ). c + x + 1) (length-build (g .words) pos b fresh (root g b f % g .words) (root g b f / g .words) (size g b f) o new c)
+    leaf-needs o = ap (λ (x : ℕ). c + x + 1) (length-build (g .words) pos b fresh (n .root % g .words) (n .root / g .words) (n .size) o new c)

@@ -5,16 +5,15 @@ use mathlib.Core.Bool.{Bool, true, false, not, cond, _&&_, _||_, false≢true}
 use mathlib.Core.List.{List, [], _∷_, _++_, append-nil}
 use Prim.Native.Nat.{ℕ, zero, suc, _+_, _-_, _/_, _%_, _≤_, _<_, max}
 use native.Mathlib.Omega.{arith}
-use native.Mathlib.Nat.{add-zero}
 use lib.ListN.{length, take, replicate}
 use lib.Dec.{T, leb, eqb}
 use borrow.Author.Tests.{le-leb, lt-leb, eq-eqb, ne-eqb, eqb-true}
-use Rattle.model.specs.declared.WalkEnd.the-variants.{Block, Hole}
-use Rattle.model.specs.declared.WalkEnd.{WalkEnd}
+use Rattle.model.specs.declared.WalkEnd.the-variants.{Block}
+use Rattle.model.specs.declared.Inode.{Inode}
 use Rattle.model.specs.Lists.{tabulate, sum}
 use Rattle.model.specs.Layout.{Layout, Fits, files}
 use Rattle.model.specs.Tree.{live, span, least}
-use Rattle.model.specs.Board.{greatest, leaf, rootAddress, sizeAddress, root, size, walkTo, contents, liveBlocks, accepted}
+use Rattle.model.specs.Board.{greatest, leaf, rootAddress, sizeAddress, root, size, inodeOf, walkTo, contents, liveBlocks, accepted}
 use Rattle.model.specs.Store.{Store, store}
 use Rattle.model.specs.Plan.{Plan, plan, Step, step}
 use Rattle.model.specs.Fresh.{Page, stored, freshPointer}
@@ -87,6 +86,9 @@ module _ (g : Layout) (fit : Fits g) (b : List ℕ) (t : T (accepted g b)) (f : 
   abbrev wanted : List ℕ
   wanted = overwritten o new (contents g b f)
 
+  abbrev inode : Inode
+  inode = inodeOf g b f
+
   abbrev Good : Plan → List ℕ → Type 0
   Good p given = p .taken ≤ lim → OneStep g b f fresh c wanted given p
 
@@ -121,22 +123,22 @@ module _ (g : Layout) (fit : Fits g) (b : List ℕ) (t : T (accepted g b)) (f : 
     | inr m ↦ absurd (hole≢block K (rw (lt-leb (o + length new) (size g b f) m) at e))
   ]
 
-  single-way : (K : ℕ) → singleBlock g b f o (o + length new) ≡ Block K → Good (singleWord g b f K o new c) []
+  pub single-way : c ≡ 0 → (K : ℕ) → singleBlock g b f o (o + length new) ≡ Block K → Good (singleWord g b K o new) []
   unfolding singleWord plan step store stored All occ used sum
-  single-way K e room =
+  single-way first K e room =
       let p = single-parts K e in
       let l : o + length new ≤ size g b f = p .0 in
-      one-good _ (size g b f) c (λ q. 0) (λ q. 0) [] (omega arith) (single-good g fit b t f f-lt o new some small l (reach (omega arith)) K (p .2) (p .1)) (record {
+      one-good _ (size g b f) 0 (λ q. 0) (λ q. 0) [] (omega arith) (single-good g fit b t f f-lt o new some small l (reach (omega arith)) K (p .2) (p .1)) (record {
         pages = [];
         others = [];
         is = refl;
-        count = sym (add-zero c);
+        count = omega arith;
         others-live = tt;
         commit-live = single-live g fit b t f f-lt o new some small l (reach (omega arith)) K (p .2) (p .1);
-      }) (λ q. let z : c - c ≡ 0 = omega arith in (rw z, refl))
+      }) (λ q. let z : 0 - c ≡ 0 = omega arith in (rw z, refl))
 
   -- 4
-  tail-empty : (s : ℕ) → s ≡ 0 → tail g fresh b f s o new c ≡ emptyTail g fresh b f o new c
+  tail-empty : (s : ℕ) → s ≡ 0 → tail g fresh b inode s o new c ≡ emptyTail g fresh b inode o new c
   unfolding tail
   tail-empty zero e = refl
   tail-empty (suc s) e = absurd (omega arith)
@@ -148,12 +150,12 @@ module _ (g : Layout) (fit : Fits g) (b : List ℕ) (t : T (accepted g b)) (f : 
       let others : List Store = inPlace (g .words) b (λ h l i. freshPointer (g .words) fresh h 0 l i) (root g b f % g .words) (root g b f / g .words) s new c (rootAddress g b f) in
       plan (step (stored (g .words) fresh ps c ++ others) (sizeAddress g b f) (s + length new) ∷ []) (c + length ps)
 
-  tail-live : (s : ℕ) → 0 < s → tail g fresh b f s o new c ≡ tailOf s
-  unfolding tail
+  tail-live : (s : ℕ) → 0 < s → tail g fresh b inode s o new c ≡ tailOf s
+  unfolding tail sizeAddress
   tail-live zero l = absurd (omega arith)
   tail-live (suc s) l = refl
 
-  tail-parts : isTail g b f o ≡ true → 0 < size g b f → (o ≡ size g b f) × T (atBlock (walkLive (g .words) b (root g b f % g .words) (root g b f / g .words) (size g b f)))
+  tail-parts : isTail g b inode o ≡ true → 0 < size g b f → (o ≡ size g b f) × T (atBlock (walkLive (g .words) b (root g b f % g .words) (root g b f / g .words) (size g b f)))
   unfolding isTail live
   tail-parts e l =
       let path : Bool = atBlock (walkLive (g .words) b (root g b f % g .words) (root g b f / g .words) (size g b f)) in
@@ -164,8 +166,8 @@ module _ (g : Layout) (fit : Fits g) (b : List ℕ) (t : T (accepted g b)) (f : 
       passes zero u l z = absurd (omega arith)
       passes (suc s) u l z = z
 
-  empty-tail-way : size g b f ≡ 0 → Good (emptyTail g fresh b f o new c) []
-  unfolding emptyTailTo emptyTail plan step store All occ
+  empty-tail-way : size g b f ≡ 0 → Good (emptyTail g fresh b inode o new c) []
+  unfolding emptyTailTo emptyTail plan step store All occ sizeAddress
   empty-tail-way z room = one-good _ (o + length new) _ _ (λ q. 0) [] (omega arith)
       (empty-tail-good g fit b t f f-lt new some small fresh c lim supply z o most room)
       (record { pages = _; others = _; is = refl; count = refl; others-live = (inode-live-at (rootAddress g b f) (root-block g fit b f), tt); commit-live = inode-live-at (sizeAddress g b f) (size-block g fit b f) })
@@ -184,14 +186,14 @@ module _ (g : Layout) (fit : Fits g) (b : List ℕ) (t : T (accepted g b)) (f : 
         commit-live = inode-live-at (sizeAddress g b f) (size-block g fit b f);
       }) (λ q. (ap (used fresh q c) (sym (length-tail (g .words) (words-pos g fit) b fresh (root g b f % g .words) (root g b f / g .words) (size g b f) new c)) ∙ used-more q _, refl))
 
-  tail-way : isTail g b f o ≡ true → Good (tail g fresh b f (size g b f) o new c) []
+  tail-way : isTail g b inode o ≡ true → Good (tail g fresh b inode (size g b f) o new c) []
   tail-way e = elim (split (size g b f) 0) [
     | inl z ↦ let z′ : size g b f ≡ 0 = omega arith in rw (tail-empty (size g b f) z′) (empty-tail-way z′)
     | inr l ↦ rw (tail-live (size g b f) l) (live-tail-way l (tail-parts e l .0) (tail-parts e l .1))
   ]
 
   -- 5
-  inside-way : o + length new ≤ size g b f → Good (shadowInside g fresh b f o new c) (insideBlocks (g .words) b (root g b f % g .words) (root g b f / g .words) (size g b f) o (length new))
+  inside-way : o + length new ≤ size g b f → Good (shadowInside g fresh b inode o new c) (insideBlocks (g .words) b (root g b f % g .words) (root g b f / g .words) (size g b f) o (length new))
   unfolding shadowInside plan step store All
   inside-way l room = one-good _ (size g b f) _ _ _ _ (omega arith) (inside-good g fit b t f f-lt o new some small l (reach (omega arith)) fresh c lim supply room) (record {
     pages = _;
@@ -203,29 +205,28 @@ module _ (g : Layout) (fit : Fits g) (b : List ℕ) (t : T (accepted g b)) (f : 
   }) (λ q. (used-more q _, refl))
 
   -- 6
-  leaf-way : 0 < size g b f → size g b f < o + length new → Good (shadowWithLength g fresh b f o new c)
-      (leaf g b (f / g .inodes) ∷ pathBlocks (g .words) b (root g b f % g .words) (root g b f / g .words) (size g b f) o (length new))
+  leaf-way : 0 < size g b f → size g b f < o + length new → Good (shadowWithLength g fresh b inode o new c)
+      (rootAddress g b f / g .words ∷ pathBlocks (g .words) b (root g b f % g .words) (root g b f / g .words) (size g b f) o (length new))
   unfolding shadowWithLength plan
   leaf-way l m room = one-good _ (max (size g b f) (o + length new)) _ _ _ _ refl (leaf-good g fit b t f f-lt o new some small l m (reach l) most fresh c lim supply room) (leaf-takes g fresh b f o new c fit f-lt)
-      (λ q. (ap (used fresh q c) (omega arith), refl))
+      (λ q. (ap (used fresh q c) (omega arith), ap (λ (x : ℕ). occ q (x ∷ pathBlocks (g .words) b (root g b f % g .words) (root g b f / g .words) (size g b f) o (length new))) (sym (root-block g fit b f))))
 
   -- whichever it is
-  not-tail : isTail g b f o ≡ false → 0 < size g b f
+  not-tail : isTail g b inode o ≡ false → 0 < size g b f
   unfolding isTail live
   not-tail e = elim (split (size g b f) 0) [
     | inl z ↦ let z′ : size g b f ≡ 0 = omega arith in absurd (false≢true (sym (rw z′ at e)))
     | inr l ↦ l
   ]
 
-  pub way-good : (end : WalkEnd) → singleBlock g b f o (o + length new) ≡ end → Good (chosenWay g fresh b f end o new c) (wayGives g b f end o new)
+  pub way-good : Good (chosenWay g fresh b inode o new c) (wayGives g b inode o new)
   unfolding chosenWay wayGives
-  way-good (Block K) e = single-way K e
-  way-good Hole e = by (isTail g b f o) refl
+  way-good = by (isTail g b inode o) refl
     where
-      by : (u : Bool) → isTail g b f o ≡ u
-          → Good (cond u (tail g fresh b f (size g b f) o new c) (cond (leb (o + length new) (size g b f)) (shadowInside g fresh b f o new c) (shadowWithLength g fresh b f o new c)))
+      by : (u : Bool) → isTail g b inode o ≡ u
+          → Good (cond u (tail g fresh b inode (size g b f) o new c) (cond (leb (o + length new) (size g b f)) (shadowInside g fresh b inode o new c) (shadowWithLength g fresh b inode o new c)))
           (cond u [] (cond (leb (o + length new) (size g b f)) (insideBlocks (g .words) b (root g b f % g .words) (root g b f / g .words) (size g b f) o (length new))
-          (leaf g b (f / g .inodes) ∷ pathBlocks (g .words) b (root g b f % g .words) (root g b f / g .words) (size g b f) o (length new))))
+          (rootAddress g b f / g .words ∷ pathBlocks (g .words) b (root g b f % g .words) (root g b f / g .words) (size g b f) o (length new))))
       by true z = tail-way z
       by false z = elim (split (o + length new) (size g b f)) [
         | inl l ↦ rw (le-leb (o + length new) (size g b f) l) (inside-way l)
@@ -233,16 +234,15 @@ module _ (g : Layout) (fit : Fits g) (b : List ℕ) (t : T (accepted g b)) (f : 
       ]
 
 -- each takes blocks from number c on
-pub taken-from : (g : Layout) (fresh : ℕ → ℕ) (b : List ℕ) (f : ℕ) (end : WalkEnd) (o : ℕ) (new : List ℕ) (c : ℕ) → c ≤ chosenWay g fresh b f end o new c .taken
-unfolding chosenWay singleWord emptyTailTo emptyTail tail shadowInside shadowWithLength plan
-taken-from g fresh b f (Block K) o new c = omega arith
-taken-from g fresh b f Hole o new c = by (isTail g b f o) (leb (o + length new) (size g b f))
+pub taken-from : (g : Layout) (fresh : ℕ → ℕ) (b : List ℕ) (n : Inode) (o : ℕ) (new : List ℕ) (c : ℕ) → c ≤ chosenWay g fresh b n o new c .taken
+unfolding chosenWay emptyTailTo emptyTail tail shadowInside shadowWithLength plan
+taken-from g fresh b n o new c = by (isTail g b n o) (leb (o + length new) (n .size))
   where
-    tails : (s : ℕ) → c ≤ tail g fresh b f s o new c .taken
+    tails : (s : ℕ) → c ≤ tail g fresh b n s o new c .taken
     tails zero = omega arith
     tails (suc s) = omega arith
 
-    by : (u v : Bool) → c ≤ cond u (tail g fresh b f (size g b f) o new c) (cond v (shadowInside g fresh b f o new c) (shadowWithLength g fresh b f o new c)) .taken
-    by true v = tails (size g b f)
+    by : (u v : Bool) → c ≤ cond u (tail g fresh b n (n .size) o new c) (cond v (shadowInside g fresh b n o new c) (shadowWithLength g fresh b n o new c)) .taken
+    by true v = tails (n .size)
     by false true = omega arith
     by false false = omega arith

@@ -4,6 +4,7 @@ use mathlib.Core.List.{List, _∷_, _++_}
 use Prim.Native.Nat.{ℕ, zero, suc, _+_, _-_, _*_, _/_, _%_}
 use lib.ListN.{length, getD}
 use lib.Dec.{leb, ltb, eqb}
+use Rattle.model.specs.declared.Inode.{Inode}
 use Rattle.model.specs.declared.WalkEnd.{WalkEnd}
 use Rattle.model.specs.declared.WalkEnd.the-variants.{Hole}
 use Rattle.model.specs.Lists.{tabulate, joined, every, pickFrom, member, distinct}
@@ -81,6 +82,10 @@ module _ (g : Layout) (b : List ℕ) where
   -- its *size*
   unfoldable pub size : ℕ → ℕ
   size f = getD b (sizeAddress f) 0
+
+  -- all of its inode: root and size, where they stand, and where the inode pointer stands that leads to them
+  abbrev pub inodeOf : ℕ → Inode
+  inodeOf f = record { pointer = g .words * inodeBlock + f / g .inodes; at = rootAddress f; root = root f; size = size f }
 
   -- *the walk to a byte* of a file
   unfoldable pub walkTo : ℕ → ℕ → WalkEnd

@@ -5,13 +5,14 @@ use mathlib.Core.List.{List, [], _∷_, _++_}
 use Prim.Native.Nat.{ℕ, zero, suc, _+_, _-_, _*_, _/_, _%_, max}
 use lib.ListN.{length, getD, replicate}
 use lib.Dec.{leb, ltb, eqb}
+use Rattle.model.specs.declared.Inode.{Inode}
 use Rattle.model.specs.declared.WalkEnd.{WalkEnd}
 use Rattle.model.specs.declared.WalkEnd.the-variants.{Block, Hole}
 use Rattle.model.specs.Lists.{tabulate, concat}
 use Rattle.model.specs.Words.{byteOf, wordOf}
 use Rattle.model.specs.Layout.{Layout}
 use Rattle.model.specs.Tree.{live, span, least, cell}
-use Rattle.model.specs.Board.{inodeBlock, leaf, rootAddress, rootHeight, rootBlock, size, sizeAddress, walkTo}
+use Rattle.model.specs.Board.{inodeBlock, rootAddress, rootHeight, rootBlock, root, size, sizeAddress, walkTo}
 use Rattle.model.specs.Store.{Store, store, performed}
 use Rattle.model.specs.Plan.{Plan, plan, step, planEpochs, afterwards}
 use Rattle.model.specs.Fresh.{Page, splice, stored, freshPointer, build}
@@ -39,17 +40,33 @@ unfoldable pub levelTop : (ℕ → ℕ) → ℕ → ℕ → ℕ
 levelTop fresh zero d = 0
 levelTop fresh (suc k) d = levelBelow fresh (suc k) d
 
+-- *If s > 0 and e exceeds the span*
+abbrev pub growing : (g : Layout) (b : List ℕ) (f e : ℕ) → Bool
+growing g b f e = live (size g b f) && ltb (span (g .words) (rootHeight g b f)) e
+
 module _ (g : Layout) (fresh : ℕ → ℕ) (b : List ℕ) (f : ℕ) where
+  -- the root word of the tree grown to height h
+  abbrev pub grownRoot : ℕ → ℕ
+  grownRoot h = g .words * levelTop fresh (rootBlock g b f) (h - rootHeight g b f) + h
+
   -- growth to height h: the levels; *barrier; then the root word*. *A null root gets the root word alone*
   unfoldable pub growthTo : ℕ → Plan
   growthTo h =
-      let d : ℕ = h - rootHeight g b f in
-      let ps : List Page = levels (g .words) fresh (rootBlock g b f) d in
-      plan (step (stored (g .words) fresh ps 0) (rootAddress g b f) (g .words * levelTop fresh (rootBlock g b f) d + h) ∷ []) (length ps)
+      let ps : List Page = levels (g .words) fresh (rootBlock g b f) (h - rootHeight g b f) in
+      plan (step (stored (g .words) fresh ps 0) (rootAddress g b f) (grownRoot h) ∷ []) (length ps)
 
-  -- *If s > 0 and e exceeds the span, the least sufficient height is reached first*
+  -- *the least sufficient height is reached first*
   unfoldable pub growth : ℕ → Plan
-  growth e = cond (live (size g b f) && ltb (span (g .words) (rootHeight g b f)) e) (growthTo (least (g .words) (g .height) e)) (plan [] 0)
+  growth e = cond (growing g b f e) (growthTo (least (g .words) (g .height) e)) (plan [] 0)
+
+  -- *What follows sees the grown tree*: its root and, of the lent board, the rest of the inode
+  unfoldable pub grownInode : ℕ → Inode
+  grownInode e = record {
+    pointer = g .words * inodeBlock g b + f / g .inodes;
+    at = rootAddress g b f;
+    root = cond (growing g b f e) (grownRoot (least (g .words) (g .height) e)) (root g b f);
+    size = size g b f;
+  }
 
 -- ---- 3. Single word
 
@@ -57,30 +74,31 @@ module _ (g : Layout) (fresh : ℕ → ℕ) (b : List ℕ) (f : ℕ) where
 unfoldable pub splicedWord : ℕ → List ℕ → ℕ → ℕ
 splicedWord o new x = wordOf 8 (λ i. splice o new (byteOf x i) i)
 
-module _ (g : Layout) (b : List ℕ) (f : ℕ) where
-  -- *If e ≤ s, all bytes fall in one word and its data block exists*: that block
-  unfoldable pub singleBlock : ℕ → ℕ → WalkEnd
-  singleBlock o e = cond (leb e (size g b f) && eqb (o / 8) ((e - 1) / 8)) (walkTo g b f o) Hole
+-- *If e ≤ s, all bytes fall in one word and its data block exists*: that block. Growth comes before no such write, so the lent board decides
+unfoldable pub singleBlock : (g : Layout) (b : List ℕ) (f o e : ℕ) → WalkEnd
+singleBlock g b f o e = cond (leb e (size g b f) && eqb (o / 8) ((e - 1) / 8)) (walkTo g b f o) Hole
 
-  -- *one store*, in data block k
-  unfoldable pub singleWord : ℕ → ℕ → List ℕ → ℕ → Plan
-  singleWord k o new c =
-      let a : ℕ = g .words * k + o % span (g .words) 0 / 8 in
-      plan (step [] a (splicedWord (o % 8) new (getD b a 0)) ∷ []) c
+-- *one store*, in data block k
+unfoldable pub singleWord : (g : Layout) (b : List ℕ) (k o : ℕ) → List ℕ → Plan
+singleWord g b k o new =
+    let a : ℕ = g .words * k + o % span (g .words) 0 / 8 in
+    plan (step [] a (splicedWord (o % 8) new (getD b a 0)) ∷ []) 0
 
-  -- ---- 4. Tail
+-- Ways 4 to 6 take the file's inode as numbers, n, and read its blocks on b.
 
-  -- *With size 0 it goes the tail way*, wherever the bytes begin; else *if o = s and no live pointer on the path to byte o is null*, the root among them
-  unfoldable pub isTail : ℕ → Bool
-  isTail o = not (live (size g b f)) || eqb o (size g b f) && atBlock (walkLive (g .words) b (rootHeight g b f) (rootBlock g b f) (size g b f))
+-- ---- 4. Tail
 
-module _ (g : Layout) (fresh : ℕ → ℕ) (b : List ℕ) (f : ℕ) where
+-- *With size 0 it goes the tail way*, wherever the bytes begin; else *if o = s and no live pointer on the path to byte o is null*, the root among them
+unfoldable pub isTail : (g : Layout) (b : List ℕ) (n : Inode) → ℕ → Bool
+isTail g b n o = not (live (n .size)) || eqb o (n .size) && atBlock (walkLive (g .words) b (n .root % g .words) (n .root / g .words) (n .size))
+
+module _ (g : Layout) (fresh : ℕ → ℕ) (b : List ℕ) (n : Inode) where
   -- with s = 0, to height h: *the old root is ignored*, *with holes left null*
   unfoldable pub emptyTailTo : ℕ → ℕ → List ℕ → ℕ → Plan
   emptyTailTo h o new c =
       let ps : List Page = build (g .words) fresh b h 0 0 o new c in
-      let hook : Store = store (rootAddress g b f) (freshPointer (g .words) fresh h o (length new) c + h) in
-      plan (step (stored (g .words) fresh ps c ++ (hook ∷ [])) (sizeAddress g b f) (o + length new) ∷ []) (c + length ps)
+      let hook : Store = store (n .at) (freshPointer (g .words) fresh h o (length new) c + h) in
+      plan (step (stored (g .words) fresh ps c ++ (hook ∷ [])) (n .at + 1) (o + length new) ∷ []) (c + length ps)
 
   -- *the least sufficient height is used*
   unfoldable pub emptyTail : ℕ → List ℕ → ℕ → Plan
@@ -90,9 +108,9 @@ module _ (g : Layout) (fresh : ℕ → ℕ) (b : List ℕ) (f : ℕ) where
   unfoldable pub tail : ℕ → ℕ → List ℕ → ℕ → Plan
   tail zero o new c = emptyTail o new c
   tail (suc s) o new c =
-      let ps : List Page = tailPages (g .words) b fresh (rootHeight g b f) (rootBlock g b f) (suc s) new c in
-      let others : List Store = inPlace (g .words) b (λ h l i. freshPointer (g .words) fresh h 0 l i) (rootHeight g b f) (rootBlock g b f) (suc s) new c (rootAddress g b f) in
-      plan (step (stored (g .words) fresh ps c ++ others) (sizeAddress g b f) (suc s + length new) ∷ []) (c + length ps)
+      let ps : List Page = tailPages (g .words) b fresh (n .root % g .words) (n .root / g .words) (suc s) new c in
+      let others : List Store = inPlace (g .words) b (λ h l i. freshPointer (g .words) fresh h 0 l i) (n .root % g .words) (n .root / g .words) (suc s) new c (n .at) in
+      plan (step (stored (g .words) fresh ps c ++ others) (n .at + 1) (suc s + length new) ∷ []) (c + length ps)
 
 -- ---- 5. Shadow inside the file
 
@@ -114,45 +132,52 @@ module _ (W : ℕ) (fresh : ℕ → ℕ) (b : List ℕ) where
       let below : Shadow = descend h (cell W b (suc k) j / W) (n - j * span W h) (o % span W h) new c (W * suc k + j) in
       cond (leb (o % span W h + length new) (span W h)) below here
 
-module _ (g : Layout) (fresh : ℕ → ℕ) (b : List ℕ) (f : ℕ) where
+-- word j of *a fresh copy of the inode leaf*, the block of the inode at address a, *with new root* r *and size* s: a page of way 6
+unfoldable pub leafPage : ℕ → List ℕ → ℕ → ℕ → ℕ → Page
+leafPage W b a r s j = cond (eqb j (a % W)) r (cond (eqb j (a % W + 1)) s (cell W b (a / W) j))
+
+module _ (g : Layout) (fresh : ℕ → ℕ) (b : List ℕ) (n : Inode) where
   -- the commit keeps its word's low bits: a root's height, 0 in any other live pointer
   unfoldable pub shadowInside : ℕ → List ℕ → ℕ → Plan
   shadowInside o new c =
-      let w : Shadow = descend (g .words) fresh b (rootHeight g b f) (rootBlock g b f) (size g b f) o new c (rootAddress g b f) in
+      let w : Shadow = descend (g .words) fresh b (n .root % g .words) (n .root / g .words) (n .size) o new c (n .at) in
       let top : ℕ = fresh (c + length (w .pages) - 1) in
       plan (step (stored (g .words) fresh (w .pages) c) (w .at) (g .words * top + getD b (w .at) 0 % g .words) ∷ []) (c + length (w .pages))
 
   -- ---- 6. Shadow with length
 
-  -- *a fresh copy of the inode leaf with new root* r *and size* s
-  unfoldable pub leafPage : ℕ → ℕ → Page
-  leafPage r s j = cond (eqb j (2 * (f % g .inodes))) r (cond (eqb j (2 * (f % g .inodes) + 1)) s (cell (g .words) b (leaf g b (f / g .inodes)) j))
-
   -- *fresh blocks on all paths from the root to written bytes*, and to byte s − 1 where o lies past s, the leaf last; *the commit is the inode pointer*
   unfoldable pub shadowWithLength : ℕ → List ℕ → ℕ → Plan
   shadowWithLength o new c =
-      let ps : List Page = build (g .words) fresh b (rootHeight g b f) (rootBlock g b f) (size g b f) o new c in
-      let copy : Page = leafPage (g .words * fresh (c + length ps - 1) + rootHeight g b f) (max (size g b f) (o + length new)) in
-      plan (step (stored (g .words) fresh (ps ++ (copy ∷ [])) c) (g .words * inodeBlock g b + f / g .inodes) (g .words * fresh (c + length ps)) ∷ []) (c + length ps + 1)
+      let ps : List Page = build (g .words) fresh b (n .root % g .words) (n .root / g .words) (n .size) o new c in
+      let copy : Page = leafPage (g .words) b (n .at) (g .words * fresh (c + length ps - 1) + n .root % g .words) (max (n .size) (o + length new)) in
+      plan (step (stored (g .words) fresh (ps ++ (copy ∷ [])) c) (n .pointer) (g .words * fresh (c + length ps)) ∷ []) (c + length ps + 1)
 
   -- ---- Write
 
-  -- the first of ways 3 to 6 whose condition holds
-  unfoldable pub chosenWay : WalkEnd → ℕ → List ℕ → ℕ → Plan
-  chosenWay (Block k) o new c = singleWord g b f k o new c
-  chosenWay Hole o new c =
-      cond (isTail g b f o) (tail g fresh b f (size g b f) o new c)
-      (cond (leb (o + length new) (size g b f)) (shadowInside o new c) (shadowWithLength o new c))
+  -- the first of ways 4 to 6 whose condition holds
+  unfoldable pub chosenWay : ℕ → List ℕ → ℕ → Plan
+  chosenWay o new c =
+      cond (isTail g b n o) (tail g fresh b n (n .size) o new c)
+      (cond (leb (o + length new) (n .size)) (shadowInside o new c) (shadowWithLength o new c))
 
 module _ (g : Layout) (fresh : ℕ → ℕ) (b : List ℕ) (f : ℕ) where
-  -- *1. L = 0: an empty plan.* *What follows* growth *sees the grown tree*: the board with growth's stores performed
+  -- growth, and the way that follows: blocks are read on the board with growth's stores performed
+  unfoldable pub grownPlan : ℕ → List ℕ → Plan
+  grownPlan o new =
+      let p : Plan = growth g fresh b f (o + length new) in
+      let grown : List ℕ = performed b (concat (planEpochs (p .steps))) in
+      afterwards p (chosenWay g fresh grown (grownInode g fresh b f (o + length new)) o new (p .taken))
+
+  -- a single word, or ways 2 and 4 to 6
+  unfoldable pub somePlan : WalkEnd → ℕ → List ℕ → Plan
+  somePlan (Block k) o new = singleWord g b k o new
+  somePlan Hole o new = grownPlan o new
+
+  -- *1. L = 0: an empty plan.*
   unfoldable pub writePlan : ℕ → List ℕ → Plan
   writePlan o [] = plan [] 0
-  writePlan o (x ∷ new) =
-      let e : ℕ = o + suc (length new) in
-      let p : Plan = growth g fresh b f e in
-      let grown : List ℕ = performed b (concat (planEpochs (p .steps))) in
-      afterwards p (chosenWay g fresh grown f (singleBlock g grown f o e) o (x ∷ new) (p .taken))
+  writePlan o (x ∷ new) = somePlan (singleBlock g b f o (o + suc (length new))) o (x ∷ new)
 
 -- ---- Length change
 

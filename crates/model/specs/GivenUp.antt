@@ -4,16 +4,17 @@ use mathlib.Core.List.{List, [], _∷_, _++_}
 use Prim.Native.Nat.{ℕ, zero, suc, _+_, _-_, _*_, _/_, _%_}
 use lib.ListN.{length}
 use lib.Dec.{leb, ltb}
+use Rattle.model.specs.declared.Inode.{Inode}
 use Rattle.model.specs.declared.WalkEnd.{WalkEnd}
 use Rattle.model.specs.declared.WalkEnd.the-variants.{Block, Hole}
 use Rattle.model.specs.Lists.{joined, concat}
 use Rattle.model.specs.Layout.{Layout}
 use Rattle.model.specs.Tree.{span, cell, link, blocks}
-use Rattle.model.specs.Board.{leaf, rootHeight, rootBlock, size}
+use Rattle.model.specs.Board.{rootHeight, rootBlock, size}
 use Rattle.model.specs.Store.{performed}
 use Rattle.model.specs.Plan.{Plan, planEpochs}
 use Rattle.model.specs.Fresh.{partLength, touched}
-use Rattle.model.specs.Change.{growth, singleBlock, isTail}
+use Rattle.model.specs.Change.{growth, grownInode, singleBlock, isTail}
 
 -- the block of a tree, where it exists and is live
 unfoldable pub own : ℕ → ℕ → List ℕ
@@ -45,24 +46,25 @@ module _ (W : ℕ) (b : List ℕ) where
   droppedBlocks (suc h) (suc k) n zero = blocks W b (suc h) (suc k) n
   droppedBlocks (suc h) (suc k) n (suc m) = joined W (λ j. droppedBlocks h (cell W b (suc k) j / W) (n - j * span W h) (suc m - j * span W h))
 
-module _ (g : Layout) (b : List ℕ) (f : ℕ) where
-  -- ways 3 to 6: single word and tail none; shadow inside the file; shadow with length, *and the leaf*
-  unfoldable pub wayGives : WalkEnd → ℕ → List ℕ → List ℕ
-  wayGives (Block k) o new = []
-  wayGives Hole o new =
-      cond (isTail g b f o) []
-      (cond (leb (o + length new) (size g b f)) (insideBlocks (g .words) b (rootHeight g b f) (rootBlock g b f) (size g b f) o (length new))
-      (leaf g b (f / g .inodes) ∷ pathBlocks (g .words) b (rootHeight g b f) (rootBlock g b f) (size g b f) o (length new)))
+-- ways 4 to 6, of a file with inode n: a tail none; shadow inside the file; shadow with length, *and the leaf*
+unfoldable pub wayGives : (g : Layout) (b : List ℕ) (n : Inode) → ℕ → List ℕ → List ℕ
+wayGives g b n o new =
+    cond (isTail g b n o) []
+    (cond (leb (o + length new) (n .size)) (insideBlocks (g .words) b (n .root % g .words) (n .root / g .words) (n .size) o (length new))
+    (n .at / g .words ∷ pathBlocks (g .words) b (n .root % g .words) (n .root / g .words) (n .size) o (length new)))
 
-  -- a length change
-  unfoldable pub lengthGives : ℕ → List ℕ
-  lengthGives n = cond (ltb n (size g b f)) (droppedBlocks (g .words) b (rootHeight g b f) (rootBlock g b f) (size g b f) n) []
+-- a length change
+unfoldable pub lengthGives : (g : Layout) (b : List ℕ) (f : ℕ) → ℕ → List ℕ
+lengthGives g b f n = cond (ltb n (size g b f)) (droppedBlocks (g .words) b (rootHeight g b f) (rootBlock g b f) (size g b f) n) []
 
--- a write: on the grown board, so that growth's blocks may be given up too
-unfoldable pub writeGives : (g : Layout) (fresh : ℕ → ℕ) (b : List ℕ) (f o : ℕ) → List ℕ → List ℕ
-writeGives g fresh b f o [] = []
-writeGives g fresh b f o (x ∷ new) =
-    let e : ℕ = o + suc (length new) in
-    let p : Plan = growth g fresh b f e in
-    let grown : List ℕ = performed b (concat (planEpochs (p .steps))) in
-    wayGives g grown f (singleBlock g grown f o e) o (x ∷ new)
+module _ (g : Layout) (fresh : ℕ → ℕ) (b : List ℕ) (f : ℕ) where
+  -- a write: a single word gives up none; another is planned on the grown board, so that growth's blocks may be given up too
+  unfoldable pub someGives : WalkEnd → ℕ → List ℕ → List ℕ
+  someGives (Block k) o new = []
+  someGives Hole o new =
+      let p : Plan = growth g fresh b f (o + length new) in
+      wayGives g (performed b (concat (planEpochs (p .steps)))) (grownInode g fresh b f (o + length new)) o new
+
+  unfoldable pub writeGives : ℕ → List ℕ → List ℕ
+  writeGives o [] = []
+  writeGives o (x ∷ new) = someGives (singleBlock g b f o (o + suc (length new))) o (x ∷ new)

@@ -33,3 +33,11 @@ pub enum WalkEnd {
     Block(u64),
     Hole,
 }
+
+// A file's inode: the address of the inode pointer that leads to it, the address of its root word, its root and its size.
+pub struct Inode {
+    pub pointer: u64,
+    pub at: u64,
+    pub root: u64,
+    pub size: u64,
+}

@@ -2,39 +2,33 @@
 use mathlib.Core.Path.{_≡_, refl, sym, ap, _∙_}
 use mathlib.Core.Bool.{Bool, true, false, cond}
 use mathlib.Core.List.{List, [], _∷_, _++_, append-assoc, append-nil}
-use Prim.Native.Nat.{ℕ, zero, suc, _+_, _-_, _*_, _%_, _^_, _≤_, _<_}
+use Prim.Native.Nat.{ℕ, zero, suc, _+_, _-_, _*_, _/_, _%_, _^_, _≤_, _<_}
 use native.Mathlib.Omega.{arith}
 use lib.ListN.{length, take, drop, length-append}
 use lib.Seq.{sets-eq, set-out, take-at}
-use lib.Dec.{leb}
-use Rattle.model.specs.declared.WalkEnd.{WalkEnd}
-use Rattle.model.specs.declared.WalkEnd.the-variants.{Block, Hole}
+use lib.Dec.{leb, lit<}
+use Rattle.model.specs.declared.Inode.{Inode}
 use Rattle.model.specs.Lists.{concat}
-use Rattle.model.specs.Layout.{Layout, house, files}
-use Rattle.model.specs.Tree.{least}
-use Rattle.model.specs.Board.{rootAddress, rootHeight, rootBlock, root, size, free}
+use Rattle.model.specs.Layout.{Layout, house}
+use Rattle.model.specs.Tree.{span, least}
+use Rattle.model.specs.Board.{rootAddress, rootHeight, rootBlock, root, size}
 use Rattle.model.specs.Store.{Store, store, barrier, performed, fenced, flat, paired, laid}
 use Rattle.model.specs.Plan.{Step, Plan, plan, step, stepEpochs, planEpochs, pairs, afterwards}
 use Rattle.model.specs.Fresh.{Page, stored}
-use Rattle.model.specs.Change.{levels, levelTop, growthTo, growth, isTail, singleWord, emptyTailTo, emptyTail, tail, shadowInside, shadowWithLength, chosenWay}
-use Rattle.model.specs.Calls.{lowest}
-use Rattle.model.proofs.Spans.{house-spans}
+use Rattle.model.specs.Change.{levels, levelTop, growing, growthTo, growth, grownInode, isTail, emptyTailTo, emptyTail, tail, shadowInside, shadowWithLength, chosenWay, grownPlan}
+use Rattle.model.proofs.Spans.{least-reaches}
 use Rattle.model.proofs.Perform.{length-performed, performed-append, length-stored}
 use Rattle.model.proofs.Epochs.{length-flat, paired-flat}
-use Rattle.model.proofs.Accepting.{facts}
-use Rattle.model.proofs.Formatted.{house-fits}
-use Rattle.model.proofs.Supplied.{Supply, supply-lowest}
-use Rattle.model.proofs.GrownBoard.{GrownBoard, grown-board}
 use Rattle.plans.specs.Laying.{onto, closing, Laid}
 use Rattle.plans.proofs.Laying as Laying
 use Rattle.building.specs.Taking.{taking, Blocks}
 use Rattle.growing.specs.declared.Count.{Count}
-use Rattle.growing.specs.Planned.{PlanLaid}
+use Rattle.growing.specs.Planned.{PlanLaid, InodeOf}
 use Rattle.growing.proofs.Growth.{levels-most}
 use Rattle.growing.proofs.OneStep.{step-plan}
 use Rattle.ways.specs.Planning.{Ready}
-use Rattle.planning.specs.Asked.{growing, grownPlan, Asked, Growable}
-use Rattle.planning.proofs.Growing.{grown-height}
+use Rattle.planning.specs.Asked.{Growable}
+use Rattle.planning.proofs.Growing.{spanned, grown-height}
 
 -- ---- Pairs of two plans
 
@@ -81,17 +75,16 @@ both-laid {p = p} {q = q} u v first place fence next second =
     record { is = all .is; count = all .next; taken = second .taken }
 
 -- each way is one step
-way-some : (g : Layout) (fresh : ℕ → ℕ) (b : List ℕ) (f : ℕ) (end : WalkEnd) (o : ℕ) (new : List ℕ) (c : ℕ) → 0 < length (chosenWay g fresh b f end o new c .steps)
-unfolding chosenWay singleWord emptyTailTo emptyTail tail shadowInside shadowWithLength plan
-way-some g fresh b f (Block k) o new c = omega arith
-way-some g fresh b f Hole o new c = by (isTail g b f o) (leb (o + length new) (size g b f))
+way-some : (g : Layout) (fresh : ℕ → ℕ) (b : List ℕ) (n : Inode) (o : ℕ) (new : List ℕ) (c : ℕ) → 0 < length (chosenWay g fresh b n o new c .steps)
+unfolding chosenWay emptyTailTo emptyTail tail shadowInside shadowWithLength plan
+way-some g fresh b n o new c = by (isTail g b n o) (leb (o + length new) (n .size))
   where
-    tails : (s : ℕ) → 0 < length (tail g fresh b f s o new c .steps)
+    tails : (s : ℕ) → 0 < length (tail g fresh b n s o new c .steps)
     tails zero = omega arith
     tails (suc s) = omega arith
 
-    by : (u v : Bool) → 0 < length (cond u (tail g fresh b f (size g b f) o new c) (cond v (shadowInside g fresh b f o new c) (shadowWithLength g fresh b f o new c)) .steps)
-    by true v = tails (size g b f)
+    by : (u v : Bool) → 0 < length (cond u (tail g fresh b n (n .size) o new c) (cond v (shadowInside g fresh b n o new c) (shadowWithLength g fresh b n o new c)) .steps)
+    by true v = tails (n .size)
     by false true = omega arith
     by false false = omega arith
 
@@ -162,76 +155,76 @@ module _ {b : List ℕ} {f o : ℕ} {new table : List ℕ} (g : Growable b f o n
   abbrev e : ℕ
   e = o + length new
 
-  abbrev asked : Asked b f o new table
-  asked = g .asked
-
-  -- the board that growth leaves
-  abbrev left : List ℕ
-  left = performed b (concat (planEpochs (growth house (taking table) b f e .steps)))
-
-  pub left-grown : GrownBoard house b left f o e
-  unfolding files
-  left-grown =
-      let lowest-first : taking table ≡ lowest house b = λ i x. asked .lists x i in
-      let supply : Supply house b (taking table) 0 (length (free house b)) = rw lowest-first (supply-lowest house b) in
-      grown-board house house-fits b (asked .of .board) f (asked .of .file) (taking table) (length (free house b)) supply o e (omega (arith, asked .some))
-      (omega (arith, asked .end, house-spans .4)) (g .room)
-
-  ready : {c : List ℕ} {base taken : ℕ} → c ≡ left → base + 8 * taken ≤ 2 ^ 16 → Ready b c f o new table base taken
-  ready same room = rw same (record {
-    blocks = asked .blocks;
-    file = asked .of .file;
-    some = asked .some;
-    end = asked .end;
-    address = left-grown .address;
-    pointers = left-grown .inode;
-    height = left-grown .height;
-    spans = left-grown .spans;
-    place = room;
-  })
-
   -- where there is none
-  module _ (t : growing b f e ≡ false) where
-    pub no-growth : growth house (taking table) b f e ≡ plan [] 0
-    unfolding growing growth
-    no-growth = rw t
+  module _ (t : growing house b f e ≡ false) {n : Inode} (i : InodeOf b f n) where
+    pub still-ready : Ready n o new table 0 0
+    still-ready = record {
+      blocks = g .blocks;
+      some = g .some;
+      end = g .end;
+      address = i .small;
+      height = rw (i .is) (g .low);
+      spans = rw (i .is) (spanned b f e t);
+      place = omega arith;
+    }
 
-    pub still-ready : Ready b (onto b []) f o new table 0 0
-    unfolding onto paired performed plan planEpochs concat
-    still-ready = ready (rw no-growth) (omega arith)
-
-    pub still-laid : {slice slice′ : List ℕ} {r : Count} → PlanLaid slice 0 (chosenWay house (taking table) (onto b []) f Hole o new 0) slice′ r
-        → PlanLaid slice 0 (grownPlan (taking table) b f o new) slice′ r
-    unfolding onto paired performed plan planEpochs concat grownPlan afterwards
-    still-laid w = rw no-growth w
+    pub still-laid : {slice slice′ : List ℕ} {r : Count} → PlanLaid slice 0 (chosenWay house (taking table) (onto b []) n o new 0) slice′ r
+        → PlanLaid slice 0 (grownPlan house (taking table) b f o new) slice′ r
+    unfolding onto paired performed plan planEpochs concat growth grownInode grownPlan afterwards
+    still-laid w = rw t (rw (i .is) at w)
 
   -- where there is
-  module _ (t : growing b f e ≡ true) {h : ℕ} (high : h ≡ least 8 3 e) where
+  module _ (t : growing house b f e ≡ true) {h : ℕ} (high : h ≡ least 8 3 e) where
     grows : growth house (taking table) b f e ≡ growthTo house (taking table) b f h
-    unfolding growing growth
+    unfolding growth
     grows = rw (t, high)
 
     -- what `grow` asks
     pub may-grow : Blocks table × (root house b f % 8 ≤ h) × (h ≤ 3)
-    may-grow = let reached = grown-height b f e (sym t) refl high (asked .end) in (asked .blocks, reached .0, reached .1)
+    may-grow = let reached = grown-height b f e t high (g .end) in (g .blocks, reached .0, reached .1)
 
-    module _ {stores stores′ : List ℕ} {count : Count} (w : PlanLaid stores 0 (growthTo house (taking table) b f h) stores′ count) where
-      pub counted : GrowthCount count
-      counted = growth-count (taking table) b f h (may-grow .2) w
+    -- and for the root word
+    pub may-root : {n : Inode} → InodeOf b f n → Blocks table × (n .root % 8 ≤ h) × (h ≤ 3)
+    may-root i = rw (i .is) may-grow
 
-      -- planned in a slice that has room for it, it is what the slice holds
-      module _ (room : 52 ≤ length stores) where
-        stored-left : onto b (take (2 * count .pairs) stores′) ≡ left
-        stored-left = onto-planned b (facts house house-fits b (asked .of .board) .sizes .below) (omega (arith, counted .most)) w ∙ rw grows
+    -- the inode with the grown root v
+    module _ {n : Inode} (i : InodeOf b f n) {v : ℕ} (ev : v ≡ 8 * levelTop (taking table) (n .root / 8) (h - n .root % 8) + h) where
+      abbrev grownNode : Inode
+      grownNode = record { pointer = n .pointer; at = n .at; root = v; size = n .size }
 
-        pub grown-ready : Ready b (onto b (take (2 * count .pairs) stores′)) f o new table (count .pairs + 1 - 8 * count .taken) (count .taken)
-        grown-ready = ready stored-left (omega (arith, counted .most, counted .stores))
+      node-is : grownNode ≡ grownInode house (taking table) b f e
+      unfolding grownInode
+      node-is = rw (ev, i .is, high, t)
 
-        pub grown-laid : {slice slice₁ slice₂ slice₃ : List ℕ} {r₁ r : Count} → PlanLaid slice 0 (growthTo house (taking table) b f h) slice₁ r₁
-            → slice₂ ≡ laid slice₁ (count .pairs) (barrier ∷ [])
-            → PlanLaid slice₂ (count .pairs + 1 - 8 * count .taken + 8 * count .taken)
-            (chosenWay house (taking table) (onto b (take (2 * count .pairs) stores′)) f Hole o new (count .taken)) slice₃ r
-            → PlanLaid slice 0 (grownPlan (taking table) b f o new) slice₃ r
-        unfolding grownPlan
-        grown-laid first fence second = rw grows (both-laid (growth-some (taking table) b f h) (way-some house (taking table) _ f Hole o new _)
-            first (w .count) fence (omega (arith, counted .stores)) (rw (stored-left, grows, w .taken) at second))
+      height-is : v % 8 ≡ h
+      height-is = omega (arith, may-grow .2)
+
+      pub grown-ready : {base taken : ℕ} → base + 8 * taken ≤ 2 ^ 16 → Ready grownNode o new table base taken
+      unfolding span
+      grown-ready room = record {
+        blocks = g .blocks;
+        some = g .some;
+        end = g .end;
+        address = i .small;
+        height = λ l. rw height-is (may-grow .2);
+        spans = λ l. rw (height-is, high) (least-reaches 8 (lit< tt) 3 e (g .end));
+        place = room;
+      }
+
+      module _ {stores stores′ : List ℕ} {count : Count} (w : PlanLaid stores 0 (growthTo house (taking table) b f h) stores′ count) where
+        -- planned in a slice that has room for it, growth is what the slice holds
+        module _ (room : 52 ≤ length stores) where
+          stored-left : onto b (take (2 * count .pairs) stores′) ≡ performed b (concat (planEpochs (growth house (taking table) b f e .steps)))
+          stored-left = onto-planned b (g .words) (omega (arith, growth-count (taking table) b f h (may-grow .2) w .most)) w ∙ rw grows
+
+          pub grown-laid : {slice slice₁ slice₂ slice₃ : List ℕ} {r₁ r : Count} → PlanLaid slice 0 (growthTo house (taking table) b f h) slice₁ r₁
+              → slice₂ ≡ laid slice₁ (count .pairs) (barrier ∷ [])
+              → PlanLaid slice₂ (count .pairs + 1 - 8 * count .taken + 8 * count .taken)
+              (chosenWay house (taking table) (onto b (take (2 * count .pairs) stores′)) grownNode o new (count .taken)) slice₃ r
+              → PlanLaid slice 0 (grownPlan house (taking table) b f o new) slice₃ r
+          unfolding grownPlan
+          grown-laid first fence second = rw grows (both-laid (growth-some (taking table) b f h) (way-some house (taking table) _ (grownInode house (taking table) b f e) o new _)
+              first (w .count) fence (omega (arith, growth-count (taking table) b f h (may-grow .2) w .stores)) (rw (stored-left, node-is, grows, w .taken) at second))
+
+    pub counted : {stores stores′ : List ℕ} {count : Count} → PlanLaid stores 0 (growthTo house (taking table) b f h) stores′ count → GrowthCount count
+    counted w = growth-count (taking table) b f h (may-grow .2) w

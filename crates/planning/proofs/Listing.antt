@@ -105,6 +105,7 @@ module _ {b m : List ℕ} {r : Answer} {v top : ℕ} (s : Surveyed b r m) (z : r
 
     pub stocked : {f o : ℕ} {new : List ℕ} → File b f → 0 < length new → o + length new ≤ 32768 → Stocked b f o new table count
     stocked file some end = record {
-      asked = record { of = file; some = some; end = end; blocks = record { small = λ i. rw (in-order i) (small i) }; lists = in-order };
+      asked = record { of = file; some = some; end = end; blocks = record { small = λ i. rw (in-order i) (small i) } };
+      lists = in-order;
       all = k .count ∙ ap length all-listed;
     }

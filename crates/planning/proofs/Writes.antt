@@ -1,7 +1,7 @@
 -- A write: a single word, or growth and what follows it. The lent board decides which.
 use mathlib.Core.Path.{_≡_, refl, sym, _∙_}
 use mathlib.Core.Logic.{_≢_, inl, inr}
-use mathlib.Core.Bool.{false, and-false}
+use mathlib.Core.Bool.{and-false}
 use mathlib.Core.List.{List, [], _∷_}
 use Prim.Native.Nat.{ℕ, _+_, _-_, _/_, _%_, _^_, _≤_, _<_}
 use native.Mathlib.Omega.{arith}
@@ -9,25 +9,20 @@ use lib.ListN.{length, getD}
 use borrow.Author.Tests.{le-leb, lt-leb, eq-eqb, ne-eqb, lt-ltb, le-ltb}
 use Rattle.model.specs.declared.WalkEnd.{WalkEnd}
 use Rattle.model.specs.declared.WalkEnd.the-variants.{Block, Hole}
-use Rattle.model.specs.Lists.{concat}
 use Rattle.model.specs.Layout.{house, files}
 use Rattle.model.specs.Tree.{span}
 use Rattle.model.specs.Board.{rootWalk, root, size, walkTo, rootBlocks, fileBlocks}
-use Rattle.model.specs.Store.{performed}
-use Rattle.model.specs.Plan.{Plan, plan, planEpochs, afterwards}
-use Rattle.model.specs.Change.{growth, singleBlock, singleWord, chosenWay, writePlan}
-use Rattle.model.proofs.Cases.{split, either}
+use Rattle.model.specs.Change.{singleBlock, singleWord, grownPlan, somePlan, writePlan}
+use Rattle.model.proofs.Cases.{split}
 use Rattle.model.proofs.Descent.{hole≢block, walk-inside}
 use Rattle.model.proofs.Accepting.{facts}
 use Rattle.model.proofs.Formatted.{house-fits}
 use Rattle.model.proofs.Ranges.{file-range}
-use Rattle.model.proofs.GrownBoard.{single-past}
 use Rattle.building.specs.Taking.{taking}
 use Rattle.growing.specs.declared.Count.{Count}
 use Rattle.growing.specs.Planned.{PlanLaid, AddressOf}
-use Rattle.planning.specs.Asked.{File, growing, grownPlan, Growable}
-use Rattle.planning.proofs.Growing.{past-span, size-is}
-use Rattle.planning.proofs.Grown as Grown
+use Rattle.planning.specs.Asked.{File, Growable, Asked}
+use Rattle.planning.proofs.Growing.{size-is}
 
 -- ---- Whether a single word is written
 
@@ -67,29 +62,25 @@ block-small {b} {f} {k = k} o file a es ex ew there =
 -- ---- The plan
 
 write-is : (fresh : ℕ → ℕ) (b : List ℕ) (f o : ℕ) (new : List ℕ) → 0 < length new
-    → let e : ℕ = o + length new in let p : Plan = growth house fresh b f e in let grown : List ℕ = performed b (concat (planEpochs (p .steps))) in
-    writePlan house fresh b f o new ≡ afterwards p (chosenWay house fresh grown f (singleBlock house grown f o e) o new (p .taken))
+    → writePlan house fresh b f o new ≡ somePlan house fresh b f (singleBlock house b f o (o + length new)) o new
 unfolding writePlan
 write-is fresh b f o [] l = absurd (omega arith)
 write-is fresh b f o (x ∷ new) l = refl
 
-module _ {b : List ℕ} {f o : ℕ} {new table : List ℕ} (g : Growable b f o new table) where
-  abbrev e : ℕ
-  e = o + length new
+module _ {b : List ℕ} {f o : ℕ} {new table : List ℕ} (a : Asked b f o new table) where
+  -- on an accepted board growth may come first
+  pub growable : Growable b f o new table
+  unfolding files
+  growable =
+      let ok = facts house house-fits b (a .of .board) in
+      record { file = a .of .file; some = a .some; end = a .end; blocks = a .blocks; words = ok .sizes .below; low = ok .low f (a .of .file) }
 
-  pub as-grown : {slice slice′ : List ℕ} {r : Count} → singleBlock house b f o e ≡ Hole → PlanLaid slice 0 (grownPlan (taking table) b f o new) slice′ r
+  pub as-grown : {slice slice′ : List ℕ} {r : Count} → singleBlock house b f o (o + length new) ≡ Hole → PlanLaid slice 0 (grownPlan house (taking table) b f o new) slice′ r
       → PlanLaid slice 0 (writePlan house (taking table) b f o new) slice′ r
-  unfolding grownPlan
-  as-grown hole w = rw (write-is (taking table) b f o new (g .asked .some), Grown.left-grown g .single, hole) w
+  unfolding somePlan
+  as-grown hole w = rw (write-is (taking table) b f o new (a .some), hole) w
 
-  -- growth comes before no single word
-  spanned : {k : ℕ} → singleBlock house b f o e ≡ Block k → growing b f e ≡ false
-  spanned single = elim (either (growing b f e)) [
-    | inl t ↦ absurd (hole≢block _ (sym (single-past house b f o e (omega (arith, g .asked .some)) (past-span b f e t)) ∙ single))
-    | inr t ↦ t
-  ]
-
-  pub as-single : {slice slice′ : List ℕ} {r : Count} {k : ℕ} → singleBlock house b f o e ≡ Block k → PlanLaid slice 0 (singleWord house b 0 k o new 0) slice′ r
+  pub as-single : {slice slice′ : List ℕ} {r : Count} {k : ℕ} → singleBlock house b f o (o + length new) ≡ Block k → PlanLaid slice 0 (singleWord house b k o new) slice′ r
       → PlanLaid slice 0 (writePlan house (taking table) b f o new) slice′ r
-  unfolding plan planEpochs concat performed afterwards chosenWay singleWord
-  as-single single w = rw (write-is (taking table) b f o new (g .asked .some), Grown.no-growth g (spanned single), single) w
+  unfolding somePlan
+  as-single single w = rw (write-is (taking table) b f o new (a .some), single) w

@@ -1,18 +1,12 @@
 -- What the functions that plan a write and a length change are asked on.
 use mathlib.Core.Path.{_≡_}
-use mathlib.Core.Bool.{Bool, _&&_}
 use mathlib.Core.List.{List, _++_}
-use Prim.Native.Nat.{ℕ, _+_, _-_, _≤_, _<_}
+use Prim.Native.Nat.{ℕ, _+_, _-_, _%_, _^_, _≤_, _<_}
 use lib.ListN.{length, drop}
-use lib.Dec.{T, ltb}
-use Rattle.model.specs.declared.WalkEnd.the-variants.{Hole}
-use Rattle.model.specs.Lists.{concat, pickFrom}
+use lib.Dec.{T}
+use Rattle.model.specs.Lists.{pickFrom}
 use Rattle.model.specs.Layout.{house}
-use Rattle.model.specs.Tree.{live, span}
-use Rattle.model.specs.Board.{rootHeight, size, free, accepted}
-use Rattle.model.specs.Store.{performed}
-use Rattle.model.specs.Plan.{Plan, planEpochs, afterwards}
-use Rattle.model.specs.Change.{growth, chosenWay}
+use Rattle.model.specs.Board.{root, size, free, accepted}
 use Rattle.model.specs.Calls.{lowest}
 use Rattle.surveying.specs.Survey.{spare}
 use Rattle.building.specs.Taking.{taking, Blocks}
@@ -27,30 +21,24 @@ pub record File (b : List ℕ) (f : ℕ) : Type 0 where
   pub board : T (accepted house b)
   pub file : f < 32
 
--- *If s > 0 and e exceeds the span*
-unfoldable pub growing : List ℕ → ℕ → ℕ → Bool
-growing b f e = live (size house b f) && ltb (span 8 (rootHeight house b f)) e
+-- A write of at least one byte that ends within bounds, on any board: a live root has one of the heights; and the table of free blocks
+pub record Growable (b : List ℕ) (f o : ℕ) (new table : List ℕ) : Type 0 where
+  pub file : f < 32
+  pub some : 0 < length new
+  pub end : o + length new ≤ 32768
+  pub blocks : Blocks table
+  pub words : length b < 2 ^ 64
+  pub low : 0 < size house b f → root house b f % 8 ≤ 3
 
--- growth and what follows it, where that is not a single word
-unfoldable pub grownPlan : (ℕ → ℕ) → List ℕ → ℕ → ℕ → List ℕ → Plan
-grownPlan fresh b f o new =
-    let p : Plan = growth house fresh b f (o + length new) in
-    afterwards p (chosenWay house fresh (performed b (concat (planEpochs (p .steps)))) f Hole o new (p .taken))
-
--- A write of at least one byte that no refusal up to 6 turns away, and the table of free blocks
+-- one that no refusal up to 6 turns away
 pub record Asked (b : List ℕ) (f o : ℕ) (new table : List ℕ) : Type 0 where
   pub of : File b f
   pub some : 0 < length new
   pub end : o + length new ≤ 32768
   pub blocks : Blocks table
-  pub lists : (i : ℕ) → taking table i ≡ lowest house b i
 
--- of which there are enough for growth
-pub record Growable (b : List ℕ) (f o : ℕ) (new table : List ℕ) : Type 0 where
-  pub asked : Asked b f o new table
-  pub room : growth house (taking table) b f (o + length new) .taken ≤ length (free house b)
-
--- and `count` is how many there are
+-- the table lists the free blocks, and `count` is how many there are
 pub record Stocked (b : List ℕ) (f o : ℕ) (new table : List ℕ) (count : ℕ) : Type 0 where
   pub asked : Asked b f o new table
+  pub lists : (i : ℕ) → taking table i ≡ lowest house b i
   pub all : count ≡ length (free house b)

@@ -2,8 +2,11 @@
 use bands::least_height;
 use growing::Count;
 use growing::grow;
+use growing::grown_root;
+use growing::lent_inode;
 use growing::root_address;
 use growing::single;
+use model::Inode;
 use model::WalkEnd;
 use plans::barrier;
 use plans::commit;
@@ -19,11 +22,11 @@ ghost use Prim.Native.Nat.{_≤_};
 ghost use lib.ListN.{length};
 ghost use Rattle.model.specs.Layout.{house};
 ghost use Rattle.model.specs.Plan.{pairs};
-ghost use Rattle.model.specs.Change.{growth, writePlan, lengthPlan};
+ghost use Rattle.model.specs.Change.{growing, grownPlan, writePlan, lengthPlan};
 ghost use Rattle.plans.specs.Laying.{Laid};
-ghost use Rattle.building.specs.Taking.{taking, Blocks};
+ghost use Rattle.building.specs.Taking.{taking};
 ghost use Rattle.growing.specs.Planned.{PlanLaid};
-ghost use Rattle.planning.specs.Asked.{Listed, File, growing, grownPlan, Growable};
+ghost use Rattle.planning.specs.Asked.{Listed, File, Growable, Asked};
 
 // Lists the blocks from 1 to top - 1 that are not marked, at the front of a table. Answers how many there are.
 pub fn list_free(marks: &[u64], top: u64, table: &mut [u64]) -> u64
@@ -44,25 +47,13 @@ pub fn list_free(marks: &[u64], top: u64, table: &mut [u64]) -> u64
 
 // Whether a write that ends at e makes a file's tree grow first.
 pub fn grows(board: &[u64], file: u64, e: u64) -> bool
-    ensures { λ r. ⌜ r ≡ growing (now (board .entry)) file e ⌝ }
+    ensures { λ r. ⌜ r ≡ growing house (now (board .entry)) file e ⌝ }
 {
     let at = root_address(board, file);
     if word(board, at + 1) == 0 {
         return false;
     }
     span(word(board, at) % 8) < e
-}
-
-// How many blocks growth takes.
-pub fn growth_blocks(board: &[u64], free: &[u64], file: u64, e: u64) -> u64
-    requires { ⌜ Blocks (now free) × (e ≤ 32768) ⌝ }
-    ensures { λ r. ⌜ r ≡ growth house (taking (now (free .entry))) (now (board .entry)) file e .taken ⌝ }
-{
-    if !grows(board, file, e) {
-        return 0;
-    }
-    let mut none = [0u64; 0];
-    grow(board, free, &mut none, file, least_height(e)).taken
 }
 
 // Plans growth, where it is due, and what follows on the grown board.
@@ -75,12 +66,13 @@ pub fn plan_grown(
     new: &[u8],
 ) -> Count
     requires { ⌜ Growable (now board) file o (now new) (now free) ⌝ }
-    ensures { λ r. ⌜ PlanLaid (now (plan .entry)) 0 (grownPlan (taking (now (free .entry))) (now (board .entry)) file o (now (new .entry))) (now (plan .exit)) r ⌝ }
+    ensures { λ r. ⌜ PlanLaid (now (plan .entry)) 0 (grownPlan house (taking (now (free .entry))) (now (board .entry)) file o (now (new .entry))) (now (plan .exit)) r ⌝ }
 {
     let e = o + new.len() as u64;
+    let inode = lent_inode(board, file);
     let mut stores = [0u64; 52];
     if !grows(board, file, e) {
-        return way(board, &stores[..0], free, plan, 0, file, o, new, 0);
+        return way(board, &stores[..0], free, plan, 0, inode, o, new, 0);
     }
     let h = least_height(e);
     let count = grow(board, free, &mut stores, file, h);
@@ -88,13 +80,20 @@ pub fn plan_grown(
     barrier(plan, count.pairs);
     let end = 2 * count.pairs as usize;
     let base = count.pairs + 1 - 8 * count.taken;
+    let root = grown_root(free, inode.root, h);
+    let grown = Inode {
+        pointer: inode.pointer,
+        at: inode.at,
+        root: root,
+        size: inode.size,
+    };
     way(
         board,
         &stores[..end],
         free,
         plan,
         base,
-        file,
+        grown,
         o,
         new,
         count.taken,
@@ -110,7 +109,7 @@ pub fn plan_write(
     o: u64,
     new: &[u8],
 ) -> Count
-    requires { ⌜ Growable (now board) file o (now new) (now free) ⌝ }
+    requires { ⌜ Asked (now board) file o (now new) (now free) ⌝ }
     ensures { λ r. ⌜ PlanLaid (now (plan .entry)) 0 (writePlan house (taking (now (free .entry))) (now (board .entry)) file o (now (new .entry))) (now (plan .exit)) r ⌝ }
 {
     let at = root_address(board, file);

@@ -1,11 +1,10 @@
 // The ways of planning a write from the fourth on: tail, shadow inside, shadow with length. The names of arguments are those of `building`.
 use bands::least_height;
-use boards::trailer;
 use building::build;
 use building::minus;
 use building::take;
 use growing::Count;
-use growing::root_address;
+use model::Inode;
 use model::WalkEnd;
 use plans::cell_on;
 use plans::commit;
@@ -19,16 +18,14 @@ use words::word;
 ghost use mathlib.Core.Path.{_≡_};
 ghost use Prim.Native.Nat.{_+_, _*_, _^_, _≤_, _<_};
 ghost use lib.ListN.{length};
-ghost use Rattle.model.specs.declared.WalkEnd.the-variants.{Hole};
 ghost use Rattle.model.specs.Lists.{tabulate};
 ghost use Rattle.model.specs.Layout.{house};
 ghost use Rattle.model.specs.Tree.{span};
-ghost use Rattle.model.specs.Board.{size};
-ghost use Rattle.model.specs.Change.{emptyTail, tail, shadowInside, shadowWithLength, chosenWay};
+ghost use Rattle.model.specs.Change.{emptyTail, tail, shadowInside, leafPage, shadowWithLength, chosenWay};
 ghost use Rattle.plans.specs.Laying.{onto};
 ghost use Rattle.building.specs.Taking.{taking};
 ghost use Rattle.growing.specs.Planned.{PlanLaid};
-ghost use Rattle.ways.specs.Planning.{Descended, Ready, leafCopy};
+ghost use Rattle.ways.specs.Planning.{Descended, Ready};
 
 // A write into an empty file, at any offset: bytes before o read 0, and pointers that lead to none of the new bytes are null.
 fn fill_empty(
@@ -37,16 +34,16 @@ fn fill_empty(
     free: &[u64],
     plan: &mut [u64],
     base: u64,
-    file: u64,
+    inode: Inode,
     o: u64,
     new: &[u8],
     c: u64,
 ) -> Count
-    requires { ⌜ Ready (now board) (onto (now board) (now grown)) file o (now new) (now free) base c ⌝ }
+    requires { ⌜ Ready inode o (now new) (now free) base c ⌝ }
     ensures { λ r. ⌜ PlanLaid (now (plan .entry)) (base + 8 * c)
-        (emptyTail house (taking (now (free .entry))) (onto (now (board .entry)) (now (grown .entry))) file o (now (new .entry)) c) (now (plan .exit)) r ⌝ }
+        (emptyTail house (taking (now (free .entry))) (onto (now (board .entry)) (now (grown .entry))) inode o (now (new .entry)) c) (now (plan .exit)) r ⌝ }
 {
-    let at = root_address(board, file);
+    let at = inode.at;
     let e = o + new.len() as u64;
     let h = least_height(e);
     let taken = build(board, grown, free, plan, base, h, 0, 0, o, new, c);
@@ -66,19 +63,17 @@ fn append(
     free: &[u64],
     plan: &mut [u64],
     base: u64,
-    file: u64,
+    inode: Inode,
     new: &[u8],
     c: u64,
 ) -> Count
-    requires { ⌜ (0 < size house (onto (now board) (now grown)) file)
-        × Ready (now board) (onto (now board) (now grown)) file (size house (onto (now board) (now grown)) file) (now new) (now free) base c ⌝ }
+    requires { ⌜ (0 < inode .size) × Ready inode (inode .size) (now new) (now free) base c ⌝ }
     ensures { λ r. ⌜ PlanLaid (now (plan .entry)) (base + 8 * c)
-        (tail house (taking (now (free .entry))) (onto (now (board .entry)) (now (grown .entry))) file
-        (size house (onto (now (board .entry)) (now (grown .entry))) file) (size house (onto (now (board .entry)) (now (grown .entry))) file) (now (new .entry)) c) (now (plan .exit)) r ⌝ }
+        (tail house (taking (now (free .entry))) (onto (now (board .entry)) (now (grown .entry))) inode (inode .size) (inode .size) (now (new .entry)) c) (now (plan .exit)) r ⌝ }
 {
-    let at = root_address(board, file);
-    let root = word_on(board, grown, at);
-    let s = word_on(board, grown, at + 1);
+    let at = inode.at;
+    let root = inode.root;
+    let s = inode.size;
     let taken = tail_pages(
         board,
         grown,
@@ -165,18 +160,18 @@ fn shadow_inside(
     free: &[u64],
     plan: &mut [u64],
     base: u64,
-    file: u64,
+    inode: Inode,
     o: u64,
     new: &[u8],
     c: u64,
 ) -> Count
-    requires { ⌜ (0 < size house (onto (now board) (now grown)) file) × Ready (now board) (onto (now board) (now grown)) file o (now new) (now free) base c ⌝ }
+    requires { ⌜ (0 < inode .size) × Ready inode o (now new) (now free) base c ⌝ }
     ensures { λ r. ⌜ PlanLaid (now (plan .entry)) (base + 8 * c)
-        (shadowInside house (taking (now (free .entry))) (onto (now (board .entry)) (now (grown .entry))) file o (now (new .entry)) c) (now (plan .exit)) r ⌝ }
+        (shadowInside house (taking (now (free .entry))) (onto (now (board .entry)) (now (grown .entry))) inode o (now (new .entry)) c) (now (plan .exit)) r ⌝ }
 {
-    let at = root_address(board, file);
-    let root = word_on(board, grown, at);
-    let s = word_on(board, grown, at + 1);
+    let at = inode.at;
+    let root = inode.root;
+    let s = inode.size;
     let spot = descend(board, grown, root % 8, root / 8, s, o, new, at);
     let taken = build(
         board,
@@ -207,7 +202,7 @@ fn shadow_inside(
 
 // The words of the inode leaf of the inode at address `at`, with its root and its size replaced.
 fn leaf_words(board: &[u64], grown: &[u64], at: u64, root: u64, size: u64) -> [u64; 8]
-    ensures { λ r. ⌜ r ≡ tabulate 8 (leafCopy (onto (now (board .entry)) (now (grown .entry))) at root size) ⌝ }
+    ensures { λ r. ⌜ r ≡ tabulate 8 (leafPage 8 (onto (now (board .entry)) (now (grown .entry))) at root size) ⌝ }
 {
     let slot = at % 8;
     let mut page = [0u64; 8];
@@ -233,18 +228,18 @@ fn shadow_with_length(
     free: &[u64],
     plan: &mut [u64],
     base: u64,
-    file: u64,
+    inode: Inode,
     o: u64,
     new: &[u8],
     c: u64,
 ) -> Count
-    requires { ⌜ (0 < size house (onto (now board) (now grown)) file) × Ready (now board) (onto (now board) (now grown)) file o (now new) (now free) base c ⌝ }
+    requires { ⌜ (0 < inode .size) × Ready inode o (now new) (now free) base c ⌝ }
     ensures { λ r. ⌜ PlanLaid (now (plan .entry)) (base + 8 * c)
-        (shadowWithLength house (taking (now (free .entry))) (onto (now (board .entry)) (now (grown .entry))) file o (now (new .entry)) c) (now (plan .exit)) r ⌝ }
+        (shadowWithLength house (taking (now (free .entry))) (onto (now (board .entry)) (now (grown .entry))) inode o (now (new .entry)) c) (now (plan .exit)) r ⌝ }
 {
-    let at = root_address(board, file);
-    let root = word_on(board, grown, at);
-    let s = word_on(board, grown, at + 1);
+    let at = inode.at;
+    let root = inode.root;
+    let s = inode.size;
     let e = o + new.len() as u64;
     let taken = build(
         board,
@@ -262,12 +257,11 @@ fn shadow_with_length(
     let size = if s < e { e } else { s };
     let page = leaf_words(board, grown, at, 8 * word(free, taken - 1) + root % 8, size);
     let all = take(free, plan, base, page, taken);
-    let pointer = 8 * (trailer(board, 0) / 8) + file / 4;
     let pairs = commit(
         plan,
         base + 8 * c,
         base + 8 * all,
-        pointer,
+        inode.pointer,
         8 * word(free, taken),
     );
     Count {
@@ -283,29 +277,27 @@ pub fn way(
     free: &[u64],
     plan: &mut [u64],
     base: u64,
-    file: u64,
+    inode: Inode,
     o: u64,
     new: &[u8],
     c: u64,
 ) -> Count
-    requires { ⌜ Ready (now board) (onto (now board) (now grown)) file o (now new) (now free) base c ⌝ }
+    requires { ⌜ Ready inode o (now new) (now free) base c ⌝ }
     ensures { λ r. ⌜ PlanLaid (now (plan .entry)) (base + 8 * c)
-        (chosenWay house (taking (now (free .entry))) (onto (now (board .entry)) (now (grown .entry))) file Hole o (now (new .entry)) c) (now (plan .exit)) r ⌝ }
+        (chosenWay house (taking (now (free .entry))) (onto (now (board .entry)) (now (grown .entry))) inode o (now (new .entry)) c) (now (plan .exit)) r ⌝ }
 {
-    let at = root_address(board, file);
-    let root = word_on(board, grown, at);
-    let s = word_on(board, grown, at + 1);
+    let s = inode.size;
     if s == 0 {
-        return fill_empty(board, grown, free, plan, base, file, o, new, c);
+        return fill_empty(board, grown, free, plan, base, inode, o, new, c);
     }
     if o == s {
-        let WalkEnd::Block(_) = walk_live(board, grown, root % 8, root / 8, s) else {
-            return shadow_with_length(board, grown, free, plan, base, file, o, new, c);
+        let WalkEnd::Block(_) = walk_live(board, grown, inode.root % 8, inode.root / 8, s) else {
+            return shadow_with_length(board, grown, free, plan, base, inode, o, new, c);
         };
-        return append(board, grown, free, plan, base, file, new, c);
+        return append(board, grown, free, plan, base, inode, new, c);
     }
     if o + new.len() as u64 <= s {
-        return shadow_inside(board, grown, free, plan, base, file, o, new, c);
+        return shadow_inside(board, grown, free, plan, base, inode, o, new, c);
     }
-    shadow_with_length(board, grown, free, plan, base, file, o, new, c)
+    shadow_with_length(board, grown, free, plan, base, inode, o, new, c)
 }

@@ -9,6 +9,15 @@ use Rattle.planning.proofs.Writes as Writes
 use Rattle.planning.proofs.plan_write.Statement.{statement}
 use Rattle.planning.proofs.plan_write.Tie as tie
 
+plan-grown-requires : tie.Need-plan-grown-requires
+plan-grown-requires c κs = Writes.growable (c .before .before .before .before .before .before .before .before .pre)
+
+plan-grown-requires-2 : tie.Need-plan-grown-requires-2
+plan-grown-requires-2 c κs = Writes.growable (c .before .before .before .before .before .before .before .before .before .pre)
+
+plan-grown-requires-3 : tie.Need-plan-grown-requires-3
+plan-grown-requires-3 c κs = Writes.growable (c .before .before .before .before .before .before .before .before .before .before .before .before .before .pre)
+
 returns : tie.Need-returns
 returns c =
     let p = c .before .before in
@@ -44,7 +53,7 @@ single-requires c κs =
     let l = k .before .before in
     let w = l .before .before .before .before in
     let r = w .before in
-    Writes.block-small _ (r .before .before .before .before .before .pre .asked .of) (r .root-address .ensures) (w .word .ensures) (l .before .word2 .ensures)
+    Writes.block-small _ (r .before .before .before .before .before .pre .of) (r .root-address .ensures) (w .word .ensures) (l .before .word2 .ensures)
     (l .root-walk .ensures) (k .k .given .1)
 
 returns-4 : tie.Need-returns-4
@@ -62,18 +71,18 @@ plan-write-spec =
     (λ c. search needs)
     (λ c κs. search needs)
     (λ c. search needs)
-    (λ c κs. search needs)
+    plan-grown-requires
     (λ c. search needs)
     returns
     (λ c. search needs)
-    (λ c κs. search needs)
+    plan-grown-requires-2
     (λ c. search needs)
     returns-2
     (λ c κs. search needs)
     (λ c κs. search needs)
     (λ c. search needs)
     (λ c. search needs)
-    (λ c κs. search needs)
+    plan-grown-requires-3
     (λ c. search needs)
     returns-3
     single-requires

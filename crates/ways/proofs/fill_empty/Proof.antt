@@ -1,35 +1,45 @@
 use mathlib.Core.Path.{_≡_, _∙_}
-use Prim.Native.Nat.{_+_, _≤_}
+use mathlib.Core.List.{List}
+use Prim.Native.Nat.{ℕ, _+_, _≤_}
 use native.Mathlib.Omega.{arith}
 use lib.ListN.{length}
 use borrow.Author.Needs.{needs}
 use Rattle.model.specs.Tree.{least}
 use Rattle.model.proofs.Spans.{least-within}
 use Rattle.bands.proofs.Bands.{least-rule}
+use Rattle.plans.specs.Laying.{onto}
 use Rattle.building.proofs.Taken as Taken
 use Rattle.ways.proofs.Ways as Ways
 use Rattle.ways.proofs.fill_empty.Statement.{statement}
 use Rattle.ways.proofs.fill_empty.Tie as tie
 
-height : (c : tie.After-least-height) → let a = c .before .before .before .before .before .before .before .args in c .least-height .result ≡ least 8 3 (a .o + length (a .new .now))
+-- the board that is read
+seen : tie.Start → List ℕ
+seen s = onto (s .args .board .now) (s .args .grown .now)
+
+height : (c : tie.After-least-height) → let a = c .before .before .before .before .before .before .args in c .least-height .result ≡ least 8 3 (a .o + length (a .new .now))
 height c =
-    let s = c .before .before .before .before .before .before .before in
+    let s = c .before .before .before .before .before .before in
     c .least-height .ensures ∙ least-rule (s .args .o + length (s .args .new .now)) (s .pre .end)
 
 low : (c : tie.After-least-height) → c .least-height .result ≤ 3
 low c =
-    let a = c .before .before .before .before .before .before .before .args in
+    let a = c .before .before .before .before .before .before .args in
     omega (arith, height c, least-within 8 (omega arith) 3 (a .o + length (a .new .now)))
 
 build-requires : tie.Need-build-requires
+unfolding seen
 build-requires c κs =
     let h = c .before in
-    Ways.may-build (h .least-height .result) 0 0 (h .before .before .before .before .before .before .before .args .o) (h .before .before .before .before .before .before .before .pre) (low h)
+    let s = h .before .before .before .before .before .before in
+    Ways.may-build (seen s) (h .least-height .result) 0 0 (s .args .o) (s .pre) (low h)
 
-some : (c : tie.After-build) → let a = c .before .before .before .before .before .before .before .before .before .args in Ways.Some (a .base) (a .c) (c .build .result)
+some : (c : tie.After-build) → let a = c .before .before .before .before .before .before .before .before .args in Ways.Some (a .base) (a .c) (c .build .result)
+unfolding seen
 some c =
     let h = c .before .before in
-    Ways.some-built (h .least-height .result) 0 0 (h .before .before .before .before .before .before .before .args .o) (h .before .before .before .before .before .before .before .pre) (low h) (c .build .ensures)
+    let s = h .before .before .before .before .before .before in
+    Ways.some-built (seen s) (h .least-height .result) 0 0 (s .args .o) (s .pre) (low h) (c .build .ensures)
 
 mul-q : tie.Need-mul-q
 mul-q c = omega (arith, some (c .before .before))
@@ -41,35 +51,34 @@ sub-word : tie.Need-sub-word
 sub-word c = omega (arith, some (c .before .before .before))
 
 mul-pair : tie.Need-mul-pair
-mul-pair c =
-    let p = c .before .before .before .before .before .before .before .before .before .before .before .before .before .pre in
-    omega (arith, Taken.block-small _ (p .blocks) (c .word .ensures))
+mul-pair c = omega (arith, Taken.block-small _ (c .before .before .before .before .before .before .before .before .before .before .before .before .pre .blocks) (c .word .ensures))
 
 add-pair : tie.Need-add-pair
-add-pair c =
-    let h = c .before .before .before .before .before .before in
-    omega (arith, Taken.block-small _ (h .before .before .before .before .before .before .before .pre .blocks) (c .word .ensures), low h)
+add-pair c = omega (arith, Taken.block-small _ (c .before .before .before .before .before .before .before .before .before .before .before .before .pre .blocks) (c .word .ensures), low (c .before .before .before .before .before .before))
 
 add-commit-2 : tie.Need-add-commit-2
 add-commit-2 c = omega (arith, some (c .before .before .before .before .before .before .before .before))
+
+add-commit-3 : tie.Need-add-commit-3
+add-commit-3 c = omega (arith, c .before .before .before .before .before .before .before .before .before .before .before .before .before .before .before .before .pre .address)
 
 commit-requires : tie.Need-commit-requires
 commit-requires c κs = omega (arith, some (c .before .before .before .before .before .before .before .before))
 
 returns : tie.Need-returns
+unfolding seen
 returns c =
     let e = c .before .before in
     let p = e .before .before .before .before in
     let b = p .before .before .before .before .before in
     let h = b .before .before in
-    Ways.empty-laid (h .before .before .before .before .before .before .before .pre) (h .before .root-address .ensures) (height h) (b .build .ensures)
-    (p .before .word .ensures) (p .pair .ensures) (e .commit .ensures)
+    let s = h .before .before .before .before .before .before in
+    Ways.empty-laid (seen s) (s .pre) (height h) (b .build .ensures) (p .before .word .ensures) (p .pair .ensures) (e .commit .ensures)
 
 pub fill-empty-spec : {M : Type 1} → statement M
 fill-empty-spec =
     tie.close
     (tie.spec
-    (λ c κs. search needs)
     (λ c. search needs)
     (λ c κs. search needs)
     build-requires
@@ -83,7 +92,7 @@ fill-empty-spec =
     (λ c. search needs)
     (λ c. search needs)
     add-commit-2
-    (λ c. search needs)
+    add-commit-3
     commit-requires
     (λ c. search needs)
     returns)
