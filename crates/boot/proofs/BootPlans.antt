@@ -20,7 +20,7 @@ use Rattle.model.specs.Store.{Store, store, performed}
 use Rattle.model.specs.Plan.{Plan, plan, step, planEpochs, afterwards}
 use Rattle.model.specs.Fresh.{Page, splice, part, partLength, touched, freshNeed, freshBefore, dataPage, stored, freshPointer, pointerPage, build}
 use Rattle.model.specs.InPlace.{atBlock, tailBefore, walkLive, tailPages, tailWords, hooked, inPlace}
-use Rattle.model.specs.Change.{levels, levelTop, growthTo, growth, grownInode, splicedWord, singleBlock, singleWord, isTail, emptyTailTo, emptyTail, tail, Shadow, descend, shadowInside, leafPage, shadowWithLength, chosenWay, grownPlan, somePlan, writePlan, cleared, lengthPlan}
+use Rattle.model.specs.Change.{levels, levelTop, growthTo, growth, grownInode, splicedWord, singleBlock, singleWord, isTail, emptyTailTo, emptyTail, tail, Shadow, descend, shadowInside, replaced, copiedLeaf, leafPage, shadowWithLength, chosenWay, grownPlan, somePlan, writePlan, cleared, lengthPlan}
 use Rattle.boot.proofs.Alike.{Alike, performed-alike, Off, off-cond, walk-to-off, cell-alike, link-alike, Found, inode-alike, address-alike, address-off, root-alike, size-alike, walk-to-alike}
 
 -- ---- Trees
@@ -217,7 +217,7 @@ module _ (g : Layout) {b b′ : List ℕ} (same : Alike (g .words) b b′) (pos 
     leaf-there = le-div-iff-mul-le pos .1 (omega arith)
 
     leaf-page-alike : (r s : ℕ) → leafPage (g .words) b (n .at) r s ≡ leafPage (g .words) b′ (n .at) r s
-    unfolding leafPage
+    unfolding leafPage copiedLeaf replaced
     leaf-page-alike r s = λ t j. cond (eqb j (n .at % g .words)) r (cond (eqb j (n .at % g .words + 1)) s (cell-alike (g .words) same (n .at / g .words) j leaf-there t))
 
     shadow-with-length-alike : (o : ℕ) (new : List ℕ) (c : ℕ) → shadowWithLength g fresh b n o new c ≡ shadowWithLength g fresh b′ n o new c

@@ -1,17 +1,21 @@
 -- A step of a plan that is as it must be: its hidden stores are hidden and go to different words, its commit leaves the board accepted, the file
 -- reading as wanted and the others as before.
-use mathlib.Core.Path.{_≡_}
+use mathlib.Core.Path.{_≡_, refl}
+use mathlib.Core.Logic.{_≢_, inl, inr}
+use mathlib.Core.Bool.{cond}
 use mathlib.Core.List.{List, [], _∷_}
 use Prim.Native.Nat.{ℕ, _+_, _/_, _≤_, _<_}
 use native.Mathlib.Omega.{arith}
 use lib.ListN.{length, set}
-use lib.Dec.{T}
-use Rattle.model.specs.Layout.{Layout, Fits}
+use lib.Dec.{T, eqb}
+use borrow.Author.Tests.{eq-eqb, ne-eqb}
+use Rattle.model.specs.Layout.{Layout, Fits, files}
 use Rattle.model.specs.Board.{contents, accepted, liveBlocks}
 use Rattle.model.specs.Store.{Store, performed}
 use Rattle.model.specs.Hidden.{hidden}
 use Rattle.model.specs.Plan.{Step}
 use Rattle.model.specs.Fresh.{Page, stored}
+use Rattle.model.proofs.Cases.{decide}
 use Rattle.model.proofs.Counting.{occ}
 use Rattle.model.proofs.Perform.{All}
 use Rattle.model.proofs.Addresses.{addresses, Stands, all-map, all-holds, performed-holds, stands-set, held-of-all}
@@ -21,7 +25,7 @@ use Rattle.model.proofs.Accepting.{Ranged, facts, address-on-board}
 use Rattle.model.proofs.Commits.{Outcome}
 use Rattle.model.proofs.HiddenStores.{hidden-in-range, hidden-all-same}
 use Rattle.model.proofs.Supplied.{Supply, stored-hidden, stored-apart, stored-not-live}
-use Rattle.model.proofs.Steps.{committed, SafeStep}
+use Rattle.model.proofs.Steps.{committed, Reads, SafeStep}
 
 pub record GoodStep (g : Layout) (b : List ℕ) (f : ℕ) (p : Step) (wanted : List ℕ) : Type 0 where
   pub hides : All (λ s. T (hidden g b s)) (p .hidden)
@@ -34,14 +38,64 @@ pub record GoodTurn (g : Layout) (b : List ℕ) (f : ℕ) (p : Step) (wanted : L
   pub good : GoodStep g b f p wanted
   pub lives : (q : ℕ) → occ q (liveBlocks g (committed b p)) + gone q ≡ occ q (liveBlocks g b) + extra q
 
-pub good-safe : (g : Layout) (b : List ℕ) (f : ℕ) (p : Step) (wanted : List ℕ) → GoodStep g b f p wanted → SafeStep g b f p
-good-safe g b f p wanted s = record { hides = all-holds (hidden g b) (p .hidden) (s .hides); accepts = s .outcome .board; others = λ i u d. s .outcome .kept i u d }
+-- ---- All files at once
 
--- Steps each good on the board that those before it leave, the last making f read `wanted`, those before leaving f as it reads
-unfoldable pub GoodSteps : (g : Layout) (b : List ℕ) (f : ℕ) (ps : List Step) (wanted : List ℕ) → Type 0
-GoodSteps g b f [] wanted = contents g b f ≡ wanted
-GoodSteps g b f (p ∷ []) wanted = GoodStep g b f p wanted
-GoodSteps g b f (p ∷ q ∷ ps) wanted = GoodStep g b f p (contents g b f) × GoodSteps g (committed b p) f (q ∷ ps) wanted
+-- file f reads w, the others as before
+unfoldable pub onlyFile : ℕ → List ℕ → (ℕ → List ℕ) → ℕ → List ℕ
+onlyFile f w before e = cond (eqb e f) w (before e)
+
+pub only-file : (f : ℕ) (w : List ℕ) (before : ℕ → List ℕ) → onlyFile f w before f ≡ w
+unfolding onlyFile
+only-file f w before = rw (eq-eqb f f refl)
+
+pub only-others : (f : ℕ) (w : List ℕ) (before : ℕ → List ℕ) (e : ℕ) → e ≢ f → onlyFile f w before e ≡ before e
+unfolding onlyFile
+only-others f w before e n = rw (ne-eqb e f n)
+
+-- an address in one of blocks 1 to B − 2
+abbrev pub InBlocks : Layout → List ℕ → ℕ → Type 0
+InBlocks g b a = Ranged g b (a / g .words)
+
+-- a step that makes each file read as `wanted` says, with its commit at an address that At allows
+pub record StepTo (g : Layout) (b : List ℕ) (p : Step) (wanted : ℕ → List ℕ) (At : ℕ → Type 0) : Type 0 where
+  pub hides : All (λ s. T (hidden g b s)) (p .hidden)
+  pub once : (x : ℕ) → occ x (addresses (p .hidden)) ≤ 1
+  pub within : At (p .commit .at)
+  pub board : T (accepted g (committed b p))
+  pub reads : Reads g (committed b p) wanted
+
+-- a good step of one file
+pub step-one : (g : Layout) (b : List ℕ) (f : ℕ) (p : Step) (wanted : List ℕ) → GoodStep g b f p wanted → StepTo g b p (onlyFile f wanted (contents g b)) (InBlocks g b)
+step-one g b f p wanted s = record {
+  hides = s .hides;
+  once = s .once;
+  within = s .within;
+  board = s .outcome .board;
+  reads = λ e u. elim (decide e f) [
+    | inl z ↦ rw (z, only-file f wanted (contents g b)) (s .outcome .reads)
+    | inr n ↦ rw (only-others f wanted (contents g b) e n) (s .outcome .kept e u n)
+  ];
+}
+
+-- one that leaves every file as it reads
+pub step-quiet : (g : Layout) (b : List ℕ) (f : ℕ) → f < files g → (p : Step) → GoodStep g b f p (contents g b f) → StepTo g b p (contents g b) (InBlocks g b)
+step-quiet g b f f-lt p s = record {
+  hides = s .hides;
+  once = s .once;
+  within = s .within;
+  board = s .outcome .board;
+  reads = λ e u. elim (decide e f) [ inl z ↦ rw z (s .outcome .reads) | inr n ↦ s .outcome .kept e u n ];
+}
+
+pub step-safe : (g : Layout) (b : List ℕ) (p : Step) (wanted : ℕ → List ℕ) (At : ℕ → Type 0) → StepTo g b p wanted At → SafeStep g b p
+step-safe g b p wanted At s = record { hides = all-holds (hidden g b) (p .hidden) (s .hides); accepts = s .board }
+
+-- Steps each good on the board that those before it leave, the last making each file read as wanted, those before leaving all as they read. The last may
+-- be committed where Last allows it, those before in blocks 1 to B − 2
+unfoldable pub GoodSteps : (g : Layout) (b : List ℕ) (ps : List Step) (wanted : ℕ → List ℕ) (Last : ℕ → Type 0) → Type 0
+GoodSteps g b [] wanted Last = Reads g b wanted
+GoodSteps g b (p ∷ []) wanted Last = StepTo g b p wanted Last
+GoodSteps g b (p ∷ q ∷ ps) wanted Last = StepTo g b p (contents g b) (InBlocks g b) × GoodSteps g (committed b p) (q ∷ ps) wanted Last
 
 -- ---- An epoch of hidden stores, performed
 

@@ -29,8 +29,8 @@ use Rattle.model.proofs.Built.{held, used}
 use Rattle.model.proofs.Grown.{Grown, grown}
 use Rattle.model.proofs.Shown.{Same, words-pos, leaf-of, same-address, count-kept, inode-kept, root-block, leaf-live}
 use Rattle.model.proofs.Accepting.{accepted-parts, Facts, facts}
-use Rattle.model.proofs.Commits.{FileCommit, grown-commit}
-use Rattle.model.proofs.Apart.{Spot, leaf-not-file, spot-ranged, spot-live, spot-trailer, spot-address, spot-size, stored-root}
+use Rattle.model.proofs.Commits.{FileCommit, grown-commit, Others, others-from}
+use Rattle.model.proofs.Apart.{Spot, leaf-not-file, spot-ranged, spot-live, spot-trailer, spot-address, spot-size, spot-others, stored-root}
 use Rattle.model.proofs.Committing.{facts-same, spot-same, spot-commit, spot-counts}
 use Rattle.model.proofs.Supplied.{Supply, supply-once}
 use Rattle.model.proofs.Steps.{committed, allCommitted, performed-steps}
@@ -210,15 +210,28 @@ module _ (g : Layout) (fit : Fits g) (b : List ℕ) (t : T (accepted g b)) (f : 
     unfolding step store committed done c₁ value
     growth-size = sym size-done
 
+    -- the other files are as they were
+    pub growth-others : Others g b (committed b (growthStep g fresh b f h)) f
+    unfolding step store committed done c₁ value
+    growth-others = others-from g pos b c₁ done f shown-same (spot-others g fit c₁ (facts-same g fit b c₁ t shown-same) f f-lt (rootAddress g b f) value commit-spot)
+
+    pub growth-length : length (committed b (growthStep g fresh b f h)) ≡ length b
+    unfolding step store committed done c₁ value
+    growth-length = sym len
+
     -- the inode is where it was
     pub growth-inode : inodeBlock g (committed b (growthStep g fresh b f h)) ≡ inodeBlock g b
     unfolding step store committed done c₁ value
     growth-inode = sym (inode-kept g b done len fit
         (λ j l. shown-same .trailers j l ∙ spot-trailer g fit c₁ (facts-same g fit b c₁ t shown-same) f f-lt (rootAddress g b f) value commit-spot j l))
 
-    pub growth-address : rootAddress g (committed b (growthStep g fresh b f h)) f ≡ rootAddress g b f
+    -- and every file's
+    pub growth-addresses : (i : ℕ) → i < files g → rootAddress g b i ≡ rootAddress g (committed b (growthStep g fresh b f h)) i
     unfolding step store committed done c₁ value
-    growth-address = sym (address-same ∙ spot-address g fit c₁ (facts-same g fit b c₁ t shown-same) f f-lt (rootAddress g b f) value commit-spot f f-lt)
+    growth-addresses i u = same-address g fit b c₁ shown-same i (leaf-of g fit i u) ∙ spot-address g fit c₁ (facts-same g fit b c₁ t shown-same) f f-lt (rootAddress g b f) value commit-spot i u
+
+    pub growth-address : rootAddress g (committed b (growthStep g fresh b f h)) f ≡ rootAddress g b f
+    growth-address = sym (growth-addresses f f-lt)
 
     pub growth-root : root g (committed b (growthStep g fresh b f h)) f ≡ grownRoot g fresh b f h
     unfolding step store committed done c₁ value

@@ -15,7 +15,7 @@ use Rattle.model.specs.Board.{rootBlocks, greatest, blockCount, trailer,
 use Rattle.model.specs.Store.{Store, store, performed}
 use Rattle.model.specs.Plan.{Step, step}
 use Rattle.model.specs.Fresh.{Page, freshNeed, stored, build}
-use Rattle.model.specs.Change.{leafPage}
+use Rattle.model.specs.Change.{replaced, copiedLeaf, leafPage}
 use Rattle.model.proofs.Cases.{decide, and-both}
 use Rattle.model.proofs.Counting.{one, occ}
 use Rattle.model.proofs.Perform.{All, address-block, address-place}
@@ -73,25 +73,25 @@ module _ (g : Layout) (fit : Fits g) (b : List ℕ) (f r s : ℕ) where
   place = address-place (g .words) (leaf g b (f / g .inodes)) (2 * (f % g .inodes)) (omega (arith, slot g fit f))
 
   copy-root : leafPage (g .words) b (rootAddress g b f) r s (2 * (f % g .inodes)) ≡ r
-  unfolding leafPage
+  unfolding leafPage copiedLeaf replaced
   copy-root = rw (place, eq-eqb (2 * (f % g .inodes)) (2 * (f % g .inodes)) refl)
 
   copy-size : leafPage (g .words) b (rootAddress g b f) r s (2 * (f % g .inodes) + 1) ≡ s
-  unfolding leafPage
+  unfolding leafPage copiedLeaf replaced
   copy-size = rw (place, ne-eqb (2 * (f % g .inodes) + 1) (2 * (f % g .inodes)) (omega arith), eq-eqb (2 * (f % g .inodes) + 1) (2 * (f % g .inodes) + 1) refl)
 
   -- the words of the other inodes are those of the old leaf
   copy-other : (j : ℕ) → j ≢ 2 * (f % g .inodes) → j ≢ 2 * (f % g .inodes) + 1 → leafPage (g .words) b (rootAddress g b f) r s j ≡ cell (g .words) b (leaf g b (f / g .inodes)) j
-  unfolding leafPage
+  unfolding leafPage copiedLeaf replaced
   copy-other j d e = rw (place, root-block g fit b f, ne-eqb j (2 * (f % g .inodes)) d, ne-eqb j (2 * (f % g .inodes) + 1) e)
 
 -- ---- The words of an inode, as words of its leaf
 
-root-word : (g : Layout) (b : List ℕ) (f : ℕ) → root g b f ≡ cell (g .words) b (leaf g b (f / g .inodes)) (2 * (f % g .inodes))
+pub root-word : (g : Layout) (b : List ℕ) (f : ℕ) → root g b f ≡ cell (g .words) b (leaf g b (f / g .inodes)) (2 * (f % g .inodes))
 unfolding root rootAddress cell
 root-word g b f = refl
 
-size-word : (g : Layout) (b : List ℕ) (f : ℕ) → size g b f ≡ cell (g .words) b (leaf g b (f / g .inodes)) (2 * (f % g .inodes) + 1)
+pub size-word : (g : Layout) (b : List ℕ) (f : ℕ) → size g b f ≡ cell (g .words) b (leaf g b (f / g .inodes)) (2 * (f % g .inodes) + 1)
 unfolding size sizeAddress rootAddress cell
 size-word g b f = ap (λ (x : ℕ). getD b x 0) (add-assoc (g .words * leaf g b (f / g .inodes)) (2 * (f % g .inodes)) 1)
 

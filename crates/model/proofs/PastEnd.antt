@@ -35,7 +35,7 @@ use Rattle.model.proofs.SizeWays.{empty-height, empty-block, empty-held
 use Rattle.model.proofs.LeafWay.{treePages, leafStep, leaf-held, leaf-height, leaf-block, leaf-size}
 use Rattle.model.proofs.GrowthWay.{growthStep, growing-cases, growth-good, growth-size, growth-reaches, growth-supply, growth-walks}
 use Rattle.model.proofs.Plans.{growth-first, still-plan, growth-is, grown-plan, write-good}
-use Rattle.model.proofs.Rules.{write-passed, plan-stores}
+use Rattle.model.proofs.Rules.{write-passed, one-stores}
 
 -- ---- Which way it goes
 
@@ -249,7 +249,7 @@ past-end-rule g fit b t f o new slice more past =
           let small : Small (new .values) = bytes-small (new .values) (new .small) in
           let good = write-good g fit b t f (ok .0) o (lowest g b) (length (free g b)) (supply-lowest g b) (new .values) small (ok .1) (ok .2) in
           let whole : performed b (stores (pairs q)) ≡ allCommitted b (q .steps) =
-          ap (performed b) (plan-stores g fit b t f (q .steps) (overwritten o (new .values) (contents g b f)) (good .steps-good)) ∙ performed-steps b (q .steps) in
+          ap (performed b) (one-stores g fit b t f (ok .0) (overwritten o (new .values) (contents g b f)) q (good .steps-good)) ∙ performed-steps b (q .steps) in
           rw (d .plans, whole) (plan-past g fit b t f (ok .0) o past (new .values) small (ok .1) (rw (d .plans) at more) (ok .2))
       | inr r ↦ absurd (omega (arith, rw (r .plans) at more))
     ]

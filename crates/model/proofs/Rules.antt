@@ -4,7 +4,7 @@ use mathlib.Core.Logic.{_≢_, _⊎_, inl, inr}
 use mathlib.Core.List.{List, [], _∷_, _++_}
 use Prim.Native.Nat.{ℕ, _+_, _-_, _/_, _^_, _≤_, _<_}
 use native.Mathlib.Omega.{arith}
-use lib.ListN.{length, length-set}
+use lib.ListN.{length}
 use lib.Dec.{T, leb, ltb}
 use borrow.Author.Tests.{leb-false, ltb-false}
 use Rattle.model.specs.declared.Answer.the-variants.{Done, Refused}
@@ -25,90 +25,109 @@ use Rattle.model.specs.Calls.{boardFaults, fileFaults, Planned, planned,
 use Rattle.model.specs.Cut.{Change, writing, lengthTo, fileOf, called, planOf, altered, after, Cut, Names, standing, lastArrived, planFor}
 use Rattle.model.specs.Claims.{Shaped, CutSafe, Altered, PlanRule, PowerCutRule, AccuracyRule}
 use Rattle.model.proofs.Counting.{occ, occ-distinct}
-use Rattle.model.proofs.Perform.{All, all-append, length-performed, Plain, stores-fenced}
+use Rattle.model.proofs.Perform.{All, all-append, Plain, stores-fenced}
 use Rattle.model.proofs.Addresses.{addresses, all-left, all-right, all-map, all-holds, all-concat}
 use Rattle.model.proofs.Epochs.{Full, epochs-fenced, shaped, shaped-none, Passed, Refusing, planned-either}
 use Rattle.model.proofs.Splice.{bytes-small}
 use Rattle.model.proofs.Shown.{count-kept}
-use Rattle.model.proofs.Accepting.{Ranged, in-range, facts, address-on-board}
+use Rattle.model.proofs.Accepting.{in-range, facts, address-on-board}
 use Rattle.model.proofs.HiddenStores.{hidden-in-range}
-use Rattle.model.proofs.Safety.{none-safe}
-use Rattle.model.proofs.Steps.{committed, allCommitted, SafeSteps, one-step, performed-steps, steps-rule, steps-altered}
-use Rattle.model.proofs.GoodSteps.{GoodStep, good-safe, GoodSteps}
+use Rattle.model.proofs.Safety.{none-safe, Settled, settled-one}
+use Rattle.model.proofs.Steps.{committed, length-committed, allCommitted, Reads, SafeSteps, one-step, steps-stores, front, front-last, front-all, performed-steps, steps-rule, steps-accepted}
+use Rattle.model.proofs.GoodSteps.{StepTo, InBlocks, onlyFile, only-file, only-others, step-safe, GoodSteps}
 use Rattle.model.proofs.Plans.{write-good, length-good, GoodPlan}
 
--- ---- Good steps are safe, and leave the file reading as wanted
+-- ---- Good steps are safe, and leave all files reading as wanted
 
-module _ (g : Layout) (f : ℕ) (wanted : List ℕ) where
-  pub good-safe-steps : (b : List ℕ) (ps : List Step) → GoodSteps g b f ps wanted → SafeSteps g b f ps
+module _ (g : Layout) (wanted : ℕ → List ℕ) (Last : ℕ → Type 0) where
+  pub good-safe-steps : (b : List ℕ) (ps : List Step) → GoodSteps g b ps wanted Last → SafeSteps g b ps
   unfolding GoodSteps SafeSteps
   good-safe-steps b [] s = tt
-  good-safe-steps b (p ∷ []) s = one-step g b f p (good-safe g b f p wanted s)
-  good-safe-steps b (p ∷ q ∷ ps) s = (good-safe g b f p (contents g b f) (s .0), λ l. s .0 .outcome .reads, good-safe-steps (committed b p) (q ∷ ps) (s .1))
+  good-safe-steps b (p ∷ []) s = one-step g b p (step-safe g b p wanted Last s)
+  good-safe-steps b (p ∷ q ∷ ps) s = (step-safe g b p (contents g b) (InBlocks g b) (s .0), λ l. s .0 .reads, good-safe-steps (committed b p) (q ∷ ps) (s .1))
 
-  pub good-reads : (b : List ℕ) (ps : List Step) → GoodSteps g b f ps wanted → contents g (allCommitted b ps) f ≡ wanted
+  pub good-reads : (b : List ℕ) (ps : List Step) → GoodSteps g b ps wanted Last → Reads g (allCommitted b ps) wanted
   unfolding GoodSteps allCommitted
   good-reads b [] s = s
-  good-reads b (p ∷ []) s = s .outcome .reads
+  good-reads b (p ∷ []) s = s .reads
   good-reads b (p ∷ q ∷ ps) s = good-reads (committed b p) (q ∷ ps) (s .1)
 
 -- ---- Their epochs
 
-length-committed : (b : List ℕ) (p : Step) → length (committed b p) ≡ length b
-unfolding committed
-length-committed b p = length-set (performed b (p .hidden)) (p .commit .at) (p .commit .value) ∙ length-performed b (p .hidden)
-
--- the store goes to one of blocks 1 to B − 2
-abbrev Inside : Layout → List ℕ → Store → Type 0
-Inside g b s = Ranged g b (s .at / g .words)
+-- the store goes to an address that At allows
+abbrev Inside : (ℕ → Type 0) → Store → Type 0
+Inside At s = At (s .at)
 
 -- an epoch of such stores, no two of them to one word
-record GoodEpoch (g : Layout) (b : List ℕ) (e : List Store) : Type 0 where
+record GoodEpoch (At : ℕ → Type 0) (e : List Store) : Type 0 where
   full : Full e
   once : T (distinct (addresses e))
-  within : All (Inside g b) e
+  within : All (Inside At) e
 
-module _ (g : Layout) (fit : Fits g) (b : List ℕ) where
-  one-store : (s : Store) → Inside g b s → GoodEpoch g b (s ∷ [])
+-- where a plan may store to
+pub record Allowed (g : Layout) (b : List ℕ) (Last : ℕ → Type 0) : Type 0 where
+  pub blocks : (a : ℕ) → InBlocks g b a → Last a
+  pub on-board : (a : ℕ) → Last a → a < length b
+
+-- blocks 1 to B − 2
+pub allowed-blocks : (g : Layout) → Fits g → (b : List ℕ) → T (accepted g b) → Allowed g b (InBlocks g b)
+allowed-blocks g fit b t = record { blocks = λ a r. r; on-board = λ a r. address-on-board g fit b (facts g fit b t .sizes) a (omega (arith, r .1)) }
+
+module _ (g : Layout) (fit : Fits g) (b : List ℕ) (Last : ℕ → Type 0) (allowed : Allowed g b Last) where
+  one-store : (s : Store) → Inside Last s → GoodEpoch Last (s ∷ [])
   unfolding All distinct member
   one-store s r = record { full = omega arith; once = tt; within = (r, tt) }
 
-  step-epochs : (ss : List Store) (s : Store) → ((x : ℕ) → occ x (addresses ss) ≤ 1) → All (Inside g b) ss → Inside g b s → All (GoodEpoch g b) (stepEpochs ss s)
+  step-epochs : (ss : List Store) (s : Store) → ((x : ℕ) → occ x (addresses ss) ≤ 1) → All (Inside Last) ss → Inside Last s → All (GoodEpoch Last) (stepEpochs ss s)
   unfolding All stepEpochs
   step-epochs [] s once rs r = (one-store s r, tt)
   step-epochs (h ∷ ss) s once rs r = (record { full = omega arith; once = occ-distinct (addresses (h ∷ ss)) once; within = rs }, (one-store s r, tt))
 
-  module _ (f : ℕ) (wanted : List ℕ) where
-    -- c is a board along the way, as long as b, so what is in range on it is in range on b
-    good-step-epochs : (c : List ℕ) → length c ≡ length b → T (accepted g c) → (p : Step) (w : List ℕ) → GoodStep g c f p w → All (GoodEpoch g b) (stepEpochs (p .hidden) (p .commit))
-    good-step-epochs c e t p w s = step-epochs (p .hidden) (p .commit) (s .once)
-        (all-map (λ x. T (hidden g c x)) (Inside g b) (λ x h. same (hidden-in-range g fit c t x h)) (p .hidden) (s .hides)) (same (s .within))
-      where
-        same : {k : ℕ} → Ranged g c k → Ranged g b k
-        same r = rw (count-kept g c b e) at r
+  -- c is a board along the way, as long as b, so what is in range on it is in range on b
+  in-blocks : (c : List ℕ) → length c ≡ length b → (a : ℕ) → InBlocks g c a → InBlocks g b a
+  in-blocks c e a r = rw (count-kept g c b e) at r
 
-    good-epochs : (c : List ℕ) → length c ≡ length b → T (accepted g c) → (ps : List Step) → GoodSteps g c f ps wanted → All (GoodEpoch g b) (planEpochs ps)
+  hidden-blocks : (c : List ℕ) → length c ≡ length b → T (accepted g c) → (ss : List Store) → All (λ s. T (hidden g c s)) ss → All (λ s. InBlocks g b (s .at)) ss
+  hidden-blocks c e t ss h = all-map (λ x. T (hidden g c x)) (λ x. InBlocks g b (x .at)) (λ x y. in-blocks c e (x .at) (hidden-in-range g fit c t x y)) ss h
+
+  module _ (wanted : ℕ → List ℕ) where
+    good-step-epochs : (c : List ℕ) → length c ≡ length b → T (accepted g c) → (p : Step) (w : ℕ → List ℕ) (At : ℕ → Type 0) → ((a : ℕ) → At a → Last a) → StepTo g c p w At
+        → All (GoodEpoch Last) (stepEpochs (p .hidden) (p .commit))
+    good-step-epochs c e t p w At at s = step-epochs (p .hidden) (p .commit) (s .once)
+        (all-map (λ x. InBlocks g b (x .at)) (Inside Last) (λ x r. allowed .blocks (x .at) r) (p .hidden) (hidden-blocks c e t (p .hidden) (s .hides))) (at (p .commit .at) (s .within))
+
+    good-epochs : (c : List ℕ) → length c ≡ length b → T (accepted g c) → (ps : List Step) → GoodSteps g c ps wanted Last → All (GoodEpoch Last) (planEpochs ps)
     unfolding GoodSteps planEpochs All
     good-epochs c e t [] s = tt
-    good-epochs c e t (p ∷ []) s = all-append (GoodEpoch g b) (stepEpochs (p .hidden) (p .commit)) [] (good-step-epochs c e t p wanted s) tt
-    good-epochs c e t (p ∷ q ∷ ps) s = all-append (GoodEpoch g b) (stepEpochs (p .hidden) (p .commit)) (planEpochs (q ∷ ps)) (good-step-epochs c e t p (contents g c f) (s .0))
-        (good-epochs (committed c p) (length-committed c p ∙ e) (s .0 .outcome .board) (q ∷ ps) (s .1))
+    good-epochs c e t (p ∷ []) s = all-append (GoodEpoch Last) (stepEpochs (p .hidden) (p .commit)) [] (good-step-epochs c e t p wanted Last (λ a r. r) s) tt
+    good-epochs c e t (p ∷ q ∷ ps) s = all-append (GoodEpoch Last) (stepEpochs (p .hidden) (p .commit)) (planEpochs (q ∷ ps))
+        (good-step-epochs c e t p (contents g c) (InBlocks g c) (λ a r. allowed .blocks a (in-blocks c e a r)) (s .0))
+        (good-epochs (committed c p) (length-committed c p ∙ e) (s .0 .board) (q ∷ ps) (s .1))
+
+    -- all stores but the last go to blocks 1 to B − 2
+    good-front : (c : List ℕ) → length c ≡ length b → T (accepted g c) → (ps : List Step) → GoodSteps g c ps wanted Last → All (λ s. InBlocks g b (s .at)) (front (concat (planEpochs ps)))
+    unfolding GoodSteps planEpochs concat All front
+    good-front c e t [] s = tt
+    good-front c e t (p ∷ []) s = rw (steps-stores p [], front-last (p .hidden) (p .commit)) (hidden-blocks c e t (p .hidden) (s .hides))
+    good-front c e t (p ∷ q ∷ ps) s = rw (steps-stores p (q ∷ ps))
+        (front-all (λ s. InBlocks g b (s .at)) (p .hidden) (p .commit) (concat (planEpochs (q ∷ ps))) (hidden-blocks c e t (p .hidden) (s .0 .hides)) (in-blocks c e (p .commit .at) (s .0 .within))
+        (good-front (committed c p) (length-committed c p ∙ e) (s .0 .board) (q ∷ ps) (s .1)))
 
 -- ---- A plan of good steps
 
-module _ (g : Layout) (fit : Fits g) (b : List ℕ) (t : T (accepted g b)) (f : ℕ) (ps : List Step) (wanted : List ℕ) (good : GoodSteps g b f ps wanted) where
-  all-good : All (GoodEpoch g b) (planEpochs ps)
-  all-good = good-epochs g fit b f wanted b refl t ps good
+module _ (g : Layout) (fit : Fits g) (b : List ℕ) (t : T (accepted g b)) (ps : List Step) (wanted : ℕ → List ℕ) (Last : ℕ → Type 0) (allowed : Allowed g b Last) (good : GoodSteps g b ps wanted Last) where
+  all-good : All (GoodEpoch Last) (planEpochs ps)
+  all-good = good-epochs g fit b Last allowed wanted b refl t ps good
 
   all-full : All Full (planEpochs ps)
-  all-full = all-map (GoodEpoch g b) Full (λ e h. h .full) (planEpochs ps) all-good
+  all-full = all-map (GoodEpoch Last) Full (λ e h. h .full) (planEpochs ps) all-good
 
   -- the board is too short for a barrier's address
-  no-barrier : (s : Store) → Inside g b s → s .at ≢ 2 ^ 64 - 1
-  no-barrier s r = let n = facts g fit b t .sizes in omega (arith, n .below, address-on-board g fit b n (s .at) (omega (arith, r .1)))
+  no-barrier : (s : Store) → Inside Last s → s .at ≢ 2 ^ 64 - 1
+  no-barrier s r = omega (arith, facts g fit b t .sizes .below, allowed .on-board (s .at) r)
 
   all-plain : All Plain (planEpochs ps)
-  all-plain = all-map (GoodEpoch g b) Plain (λ e h. all-map (Inside g b) (λ s. s .at ≢ 2 ^ 64 - 1) no-barrier e (h .within)) (planEpochs ps) all-good
+  all-plain = all-map (GoodEpoch Last) Plain (λ e h. all-map (Inside Last) (λ s. s .at ≢ 2 ^ 64 - 1) no-barrier e (h .within)) (planEpochs ps) all-good
 
   pub plan-epochs : epochs (fenced (planEpochs ps)) ≡ planEpochs ps
   plan-epochs = epochs-fenced (planEpochs ps) all-full all-plain
@@ -117,21 +136,55 @@ module _ (g : Layout) (fit : Fits g) (b : List ℕ) (t : T (accepted g b)) (f : 
   plan-stores = stores-fenced (planEpochs ps) all-plain
 
   pub plan-shaped : Shaped (fenced (planEpochs ps))
-  plan-shaped = shaped (planEpochs ps) all-full all-plain (all-map (GoodEpoch g b) (λ e. T (distinct (addresses e))) (λ e h. h .once) (planEpochs ps) all-good)
+  plan-shaped = shaped (planEpochs ps) all-full all-plain (all-map (GoodEpoch Last) (λ e. T (distinct (addresses e))) (λ e h. h .once) (planEpochs ps) all-good)
 
-  pub plan-within : T (all (λ s. inRange g b (s .at / g .words)) (stores (fenced (planEpochs ps))))
+  pub plan-within : All (λ s. Last (s .at)) (stores (fenced (planEpochs ps)))
   plan-within =
-      let Ok : Store → Type 0 = λ s. T (inRange g b (s .at / g .words)) in
-      let each : All (All Ok) (planEpochs ps) = all-map (GoodEpoch g b) (All Ok) (λ e h. all-map (Inside g b) Ok (λ s r. in-range g b (s .at / g .words) r) e (h .within)) (planEpochs ps) all-good in
-      rw plan-stores (all-holds (λ s. inRange g b (s .at / g .words)) (concat (planEpochs ps)) (all-concat Ok (planEpochs ps) each))
+      let each : All (All (λ s. Last (s .at))) (planEpochs ps) = all-map (GoodEpoch Last) (All (λ s. Last (s .at))) (λ e h. h .within) (planEpochs ps) all-good in
+      rw plan-stores (all-concat (λ s. Last (s .at)) (planEpochs ps) each)
 
-  -- performed whole, it alters file f alone
-  pub plan-altered : Altered g b (performed b (stores (fenced (planEpochs ps)))) f wanted
-  plan-altered = rw (plan-stores, performed-steps b ps) (steps-altered g b t f ps (good-safe-steps g f wanted b ps good) wanted (good-reads g f wanted b ps good))
+  pub plan-front : All (λ s. InBlocks g b (s .at)) (front (stores (fenced (planEpochs ps))))
+  plan-front = rw plan-stores (good-front g fit b Last allowed wanted b refl t ps good)
+
+  -- performed whole, it leaves the board accepted, and all files reading as wanted
+  pub plan-reads : let b′ : List ℕ = performed b (stores (fenced (planEpochs ps))) in T (accepted g b′) × Reads g b′ wanted
+  plan-reads = rw (plan-stores, performed-steps b ps) (steps-accepted g b t ps (good-safe-steps g wanted Last b ps good), good-reads g wanted Last b ps good)
 
   -- cut anywhere, it obeys the power-cut rule
-  pub plan-cut : f < files g → (x : Cut) → let ss : List Store = fenced (planEpochs ps) in Names ss x → CutSafe g b (standing ss x b) f wanted ss (lastArrived ss x)
-  plan-cut u = steps-rule g fit f u b t ps (good-safe-steps g f wanted b ps good) wanted (good-reads g f wanted b ps good) (fenced (planEpochs ps)) plan-epochs
+  pub plan-cut : (x : Cut) → let ss : List Store = fenced (planEpochs ps) in Names ss x → Settled g b (standing ss x b) wanted ss (lastArrived ss x)
+  plan-cut = steps-rule g fit b t ps (good-safe-steps g wanted Last b ps good) wanted (good-reads g wanted Last b ps good) (fenced (planEpochs ps)) plan-epochs
+
+-- a plan of one file
+module _ (g : Layout) (fit : Fits g) (b : List ℕ) (t : T (accepted g b)) (f : ℕ) (f-lt : f < files g) (wanted : List ℕ) (p : Plan)
+    (good : GoodSteps g b (p .steps) (onlyFile f wanted (contents g b)) (InBlocks g b)) where
+  abbrev now : ℕ → List ℕ
+  now = onlyFile f wanted (contents g b)
+
+  abbrev all-in : Allowed g b (InBlocks g b)
+  all-in = allowed-blocks g fit b t
+
+  pub one-altered : Altered g b (performed b (stores (pairs p))) f wanted
+  unfolding pairs
+  one-altered =
+      let r = plan-reads g fit b t (p .steps) now (InBlocks g b) all-in good in
+      record { board = r .0; file = r .1 f f-lt ∙ only-file f wanted (contents g b); others = λ e u n. r .1 e u ∙ only-others f wanted (contents g b) e n }
+
+  pub one-cut : (x : Cut) → Names (pairs p) x → CutSafe g b (standing (pairs p) x b) f wanted (pairs p) (lastArrived (pairs p) x)
+  unfolding pairs
+  one-cut x u = rw (only-file f wanted (contents g b)) at (settled-one g b (standing (pairs p) x b) now (pairs p) (lastArrived (pairs p) x)
+      (plan-cut g fit b t (p .steps) now (InBlocks g b) all-in good x u) f f-lt (λ e v n. only-others f wanted (contents g b) e n))
+
+  pub one-stores : stores (pairs p) ≡ concat (planEpochs (p .steps))
+  unfolding pairs
+  one-stores = plan-stores g fit b t (p .steps) now (InBlocks g b) all-in good
+
+  pub one-shaped : Shaped (pairs p) × T (all (λ s. inRange g b (s .at / g .words)) (stores (pairs p)))
+  unfolding pairs
+  one-shaped = (
+    plan-shaped g fit b t (p .steps) now (InBlocks g b) all-in good,
+    all-holds (λ s. inRange g b (s .at / g .words)) (stores (pairs p)) (all-map (λ s. InBlocks g b (s .at)) (λ s. T (inRange g b (s .at / g .words))) (λ s r. in-range g b (s .at / g .words) r)
+        (stores (pairs p)) (plan-within g fit b t (p .steps) now (InBlocks g b) all-in good)),
+  )
 
 -- ---- Calls
 
@@ -195,28 +248,27 @@ call-either g fit b t (lengthTo f n) slice =
     (file, length-good g fit b t f file n (ltb-false (greatest g) n (all-right Passed (fileFaults g b f) own h .0)) (lowest g b)))
 
 pub power-cut-rule : PowerCutRule
-unfolding epochs pairs
+unfolding epochs
 power-cut-rule g fit b t c slice x =
     let before : List ℕ = contents g b (fileOf c) in
     elim (call-either g fit b t c slice) [
-      | inl d ↦ rw (after-done c before (d .answers), d .plans) (plan-cut g fit b t (fileOf c) (planFor g b c .steps) (altered c before) (d .good .steps-good) (d .file-in) x)
+      | inl d ↦ rw (after-done c before (d .answers), d .plans) (one-cut g fit b t (fileOf c) (d .file-in) (altered c before) (planFor g b c) (d .good .steps-good) x)
       | inr r ↦ rw (after-refused c before (r .answers), r .plans) (λ l. none-safe [] refl b g t (fileOf c) x (lastArrived [] x))
     ]
 
 pub accuracy-rule : AccuracyRule
-unfolding performed stores filter pairs
+unfolding performed stores filter
 accuracy-rule g fit b t c slice =
     let before : List ℕ = contents g b (fileOf c) in
     elim (call-either g fit b t c slice) [
-      | inl d ↦ rw (after-done c before (d .answers), d .plans) (plan-altered g fit b t (fileOf c) (planFor g b c .steps) (altered c before) (d .good .steps-good))
+      | inl d ↦ rw (after-done c before (d .answers), d .plans) (one-altered g fit b t (fileOf c) (d .file-in) (altered c before) (planFor g b c) (d .good .steps-good))
       | inr r ↦ rw (after-refused c before (r .answers), r .plans) record { board = t; file = refl; others = λ e l n. refl }
     ]
 
 pub plan-rule : PlanRule
-unfolding all stores filter pairs
+unfolding all stores filter
 plan-rule g fit b t c slice =
-    let wanted : List ℕ = altered c (contents g b (fileOf c)) in
     elim (call-either g fit b t c slice) [
-      | inl d ↦ rw (d .plans) (plan-shaped g fit b t (fileOf c) (planFor g b c .steps) wanted (d .good .steps-good), plan-within g fit b t (fileOf c) (planFor g b c .steps) wanted (d .good .steps-good))
+      | inl d ↦ rw (d .plans) (one-shaped g fit b t (fileOf c) (d .file-in) (altered c (contents g b (fileOf c))) (planFor g b c) (d .good .steps-good))
       | inr r ↦ rw (r .plans) (shaped-none, tt)
     ]

@@ -1,7 +1,7 @@
 -- Safe plans obey the power-cut rule, where stores that are hidden show nothing.
 use mathlib.Core.Path.{_≡_, refl, sym, ap, subst, _∙_}
 use mathlib.Core.Logic.{_≢_, _⊎_, inl, inr, _↔_}
-use mathlib.Core.Bool.{Bool, true, false}
+use mathlib.Core.Bool.{Bool, true, false, cond}
 use mathlib.Core.List.{List, [], _∷_}
 use Prim.Native.Nat.{ℕ, zero, suc, _≤_, _<_}
 use native.Mathlib.Omega.{arith}
@@ -13,7 +13,7 @@ use Rattle.model.specs.Layout.{Layout, Fits, files}
 use Rattle.model.specs.Board.{contents, accepted}
 use Rattle.model.specs.Store.{Store, performed, epochs}
 use Rattle.model.specs.Hidden.{hidden}
-use Rattle.model.specs.Cut.{Cut, chosen, standing}
+use Rattle.model.specs.Cut.{Cut, chosen, Names, standing}
 use Rattle.model.specs.Safe.{left, SafePlan, decided}
 use Rattle.model.specs.Claims.{Shows, CutSafe, SafeRule}
 use Rattle.model.proofs.Cases.{decide, split}
@@ -88,15 +88,61 @@ data Outcome (before now wanted : List ℕ) (arrived : Bool) : Type 0 where
   waiting : arrived ≡ false → now ≡ before → Outcome before now wanted arrived
   alike : before ≡ wanted → now ≡ before → Outcome before now wanted arrived
 
-outcome-wholly : {before now wanted : List ℕ} {arrived : Bool} → Outcome before now wanted arrived → (now ≡ before) ⊎ (now ≡ wanted)
-outcome-wholly (done t e) = inr e
-outcome-wholly (waiting t e) = inl e
-outcome-wholly (alike s e) = inl e
+-- so the cut says which of the two it reads
+outcome-settled : {before now wanted : List ℕ} {arrived : Bool} → Outcome before now wanted arrived → now ≡ cond arrived wanted before
+outcome-settled (done t e) = rw t e
+outcome-settled (waiting t e) = rw t e
+outcome-settled {before} {now} {wanted} {arrived} (alike s e) = by arrived
+  where
+    by : (t : Bool) → now ≡ cond t wanted before
+    by true = e ∙ s
+    by false = e
 
-outcome-decides : {before now wanted : List ℕ} {arrived : Bool} → Outcome before now wanted arrived → before ≢ wanted → (now ≡ wanted) ↔ T arrived
-outcome-decides (done t e) n = (λ h. rw t tt, λ h. e)
-outcome-decides (waiting t e) n = (λ h. absurd (n (sym e ∙ h)), λ h. absurd (rw t at h))
-outcome-decides (alike s e) n = absurd (n s)
+-- ---- Whole boards
+
+-- Epochs of two or more stores are hidden on the board as earlier epochs left it. Epochs of one store leave the board accepted; of these only
+-- number d changes what any file reads
+pub record OneTurn (g : Layout) (b : List ℕ) (es : List (List Store)) (d : ℕ) : Type 0 where
+  pub hides : (i : ℕ) → i < length es → 1 < length (getD es i []) → T (all (hidden g (left b es i)) (getD es i []))
+  pub accepts : (i : ℕ) → i < length es → length (getD es i []) ≡ 1 → T (accepted g (left b es (suc i)))
+  pub keeps : (i : ℕ) → i < length es → length (getD es i []) ≡ 1 → i ≢ d → (e : ℕ) → e < files g → contents g (left b es (suc i)) e ≡ contents g (left b es i) e
+
+-- b′ stands where b was lent and each file is to read as `wanted` says: all files read as wanted where the store that decides arrived, and as before where not
+pub record Settled (g : Layout) (b b′ : List ℕ) (wanted : ℕ → List ℕ) (ss : List Store) (arrived : Bool) : Type 0 where
+  pub board : T (accepted g b′)
+  pub reads : (e : ℕ) → e < files g → contents g b′ e ≡ cond arrived (wanted e) (contents g b e)
+  pub planned : (e : ℕ) → e < files g → contents g b e ≢ wanted e → 0 < length ss
+
+-- a store to one file alone
+pub settled-one : (g : Layout) (b b′ : List ℕ) (wanted : ℕ → List ℕ) (ss : List Store) (arrived : Bool) → Settled g b b′ wanted ss arrived
+    → (f : ℕ) → f < files g → ((e : ℕ) → e < files g → e ≢ f → wanted e ≡ contents g b e) → CutSafe g b b′ f (wanted f) ss arrived
+settled-one g b b′ wanted ss arrived s f f-lt same = record {
+  board = s .board;
+  wholly = wholly arrived (s .reads f f-lt);
+  others = λ e u d. others arrived e (same e u d) (s .reads e u);
+  planned = s .planned f f-lt;
+  decides = λ n. decides arrived n (s .reads f f-lt);
+}
+  where
+    wholly : (t : Bool) → contents g b′ f ≡ cond t (wanted f) (contents g b f) → (contents g b′ f ≡ contents g b f) ⊎ (contents g b′ f ≡ wanted f)
+    wholly true r = inr r
+    wholly false r = inl r
+
+    others : (t : Bool) (e : ℕ) → wanted e ≡ contents g b e → contents g b′ e ≡ cond t (wanted e) (contents g b e) → contents g b′ e ≡ contents g b e
+    others true e w r = r ∙ w
+    others false e w r = r
+
+    decides : (t : Bool) → contents g b f ≢ wanted f → contents g b′ f ≡ cond t (wanted f) (contents g b f) → (contents g b′ f ≡ wanted f) ↔ T t
+    decides true n r = (λ h. tt, λ h. r)
+    decides false n r = (λ h. absurd (n (sym r ∙ h)), λ h. absurd h)
+
+-- a safe plan of one file
+safe-turn : (g : Layout) (b : List ℕ) (f : ℕ) (es : List (List Store)) (d : ℕ) → SafePlan g b f es d → OneTurn g b es d
+safe-turn g b f es d s = record {
+  hides = s .hides;
+  accepts = s .accepts;
+  keeps = λ i l one n e u. elim (decide e f) [ inl z ↦ rw z (s .keeps i l one n) | inr m ↦ s .others i l one e u m ];
+}
 
 -- what stands after a cut in an epoch: where it is not one store, a board that shows what the epochs before left; where it is one, the board without it or with it
 data Stands (g : Layout) (b : List ℕ) (es : List (List Store)) (x : Cut) (now : List ℕ) : Type 0 where
@@ -109,7 +155,7 @@ module _ (g : Layout) (fit : Fits g) where
   pub hidden-shows : (b : List ℕ) → T (accepted g b) → (ss : List Store) → T (all (hidden g b) ss) → Shows g b (performed b ss)
   hidden-shows b ok ss h = subst (λ (r : List Store). Shows g b (performed b r)) (chosen-all ss) (hidden-rule g fit b ok ss h (λ i. true))
 
-  module _ (b : List ℕ) (ok : T (accepted g b)) (f : ℕ) (f-lt : f < files g) (es : List (List Store)) (d : ℕ) (safe : SafePlan g b f es d) where
+  module _ (b : List ℕ) (ok : T (accepted g b)) (es : List (List Store)) (d : ℕ) (safe : OneTurn g b es d) where
     all-hidden : (i : ℕ) → i < length es → length (getD es i []) ≢ 1 → T (all (hidden g (left b es i)) (getD es i []))
     unfolding all
     all-hidden i l n = elim (decide (length (getD es i [])) 0) [
@@ -127,31 +173,23 @@ module _ (g : Layout) (fit : Fits g) where
       | inr n ↦ let k = left-accepted i (omega arith) in rw (epoch-shows i l k n .boards) k
     ]
 
-    left-others : (e : ℕ) → e < files g → e ≢ f → (i : ℕ) → i ≤ length es → contents g (left b es i) e ≡ contents g b e
-    left-others e e-lt n i l = unchanged (λ k. contents g (left b es k) e) 0 i (omega arith) (λ k u v. step k (omega arith)) ∙ ap (λ (c : List ℕ). contents g c e) (left-zero b es)
-      where
-        step : (k : ℕ) → k < length es → contents g (left b es (suc k)) e ≡ contents g (left b es k) e
-        step k v = elim (decide (length (getD es k [])) 1) [
-          | inl one ↦ safe .others k v one e e-lt n
-          | inr m ↦ epoch-shows k v (left-accepted k (omega arith)) m .reads e e-lt
-        ]
+    module _ (f : ℕ) (f-lt : f < files g) where
+      left-keeps : (i : ℕ) → i < length es → i ≢ d → contents g (left b es (suc i)) f ≡ contents g (left b es i) f
+      left-keeps i l n = elim (decide (length (getD es i [])) 1) [
+        | inl one ↦ safe .keeps i l one n f f-lt
+        | inr m ↦ epoch-shows i l (left-accepted i (omega arith)) m .reads f f-lt
+      ]
 
-    left-keeps : (i : ℕ) → i < length es → i ≢ d → contents g (left b es (suc i)) f ≡ contents g (left b es i) f
-    left-keeps i l n = elim (decide (length (getD es i [])) 1) [
-      | inl one ↦ safe .keeps i l one n
-      | inr m ↦ epoch-shows i l (left-accepted i (omega arith)) m .reads f f-lt
-    ]
+      -- file f before the store of epoch d, and after it
+      left-before : (i : ℕ) → i ≤ length es → i ≤ d → contents g (left b es i) f ≡ contents g b f
+      left-before i l u = unchanged (λ k. contents g (left b es k) f) 0 i (omega arith) (λ k v w. left-keeps k (omega arith) (omega arith)) ∙ ap (λ (c : List ℕ). contents g c f) (left-zero b es)
 
-    -- file f before the store of epoch d, and after it
-    left-before : (i : ℕ) → i ≤ length es → i ≤ d → contents g (left b es i) f ≡ contents g b f
-    left-before i l u = unchanged (λ k. contents g (left b es k) f) 0 i (omega arith) (λ k v w. left-keeps k (omega arith) (omega arith)) ∙ ap (λ (c : List ℕ). contents g c f) (left-zero b es)
+      left-after : (i : ℕ) → i ≤ length es → d < i → contents g (left b es i) f ≡ contents g (left b es (length es)) f
+      left-after i l u = sym (unchanged (λ k. contents g (left b es k) f) i (length es) l (λ k v w. left-keeps k w (omega arith)))
 
-    left-after : (i : ℕ) → i ≤ length es → d < i → contents g (left b es i) f ≡ contents g (left b es (length es)) f
-    left-after i l u = sym (unchanged (λ k. contents g (left b es k) f) i (length es) l (λ k v w. left-keeps k w (omega arith)))
-
-    -- where epoch d is not one store, nothing changes file f
-    left-alike : (i : ℕ) → i ≡ d → i < length es → length (getD es i []) ≢ 1 → contents g b f ≡ contents g (left b es (length es)) f
-    left-alike i e l n = sym (left-before i (omega arith) (omega arith)) ∙ sym (epoch-shows i l (left-accepted i (omega arith)) n .reads f f-lt) ∙ left-after (suc i) l (omega arith)
+      -- where epoch d is not one store, nothing changes file f
+      left-alike : (i : ℕ) → i ≡ d → i < length es → length (getD es i []) ≢ 1 → contents g b f ≡ contents g (left b es (length es)) f
+      left-alike i e l n = sym (left-before i (omega arith) (omega arith)) ∙ sym (epoch-shows i l (left-accepted i (omega arith)) n .reads f f-lt) ∙ left-after (suc i) l (omega arith)
 
     module _ (x : Cut) (x-lt : x .epoch < length es) where
       now : List ℕ
@@ -173,48 +211,38 @@ module _ (g : Layout) (fit : Fits g) where
       now-accepted (stayed t z) = rw z (left-accepted (x .epoch) (omega arith))
       now-accepted (moved t z) = rw z (left-accepted (suc (x .epoch)) x-lt)
 
-      now-others : Stands g b es x now → (e : ℕ) → e < files g → e ≢ f → contents g now e ≡ contents g b e
-      now-others (hid n s) e e-lt m = s .reads e e-lt ∙ left-others e e-lt m (x .epoch) (omega arith)
-      now-others (stayed t z) e e-lt m = rw z (left-others e e-lt m (x .epoch) (omega arith))
-      now-others (moved t z) e e-lt m = rw z (left-others e e-lt m (suc (x .epoch)) x-lt)
+      module _ (f : ℕ) (f-lt : f < files g) where
+        -- a cut in another epoch than d
+        away : x .epoch ≢ d → contents g now f ≡ contents g (left b es (x .epoch)) f → Outcome (contents g b f) (contents g now f) (contents g (left b es (length es)) f) (decided d x)
+        away m r = elim (split d (x .epoch)) [
+          | inl u ↦ done (decided-late d x (omega arith)) (r ∙ left-after f f-lt (x .epoch) (omega arith) (omega arith))
+          | inr u ↦ waiting (decided-early d x u) (r ∙ left-before f f-lt (x .epoch) (omega arith) (omega arith))
+        ]
 
-      -- a cut in another epoch than d
-      away : x .epoch ≢ d → contents g now f ≡ contents g (left b es (x .epoch)) f → Outcome (contents g b f) (contents g now f) (contents g (left b es (length es)) f) (decided d x)
-      away m r = elim (split d (x .epoch)) [
-        | inl u ↦ done (decided-late d x (omega arith)) (r ∙ left-after (x .epoch) (omega arith) (omega arith))
-        | inr u ↦ waiting (decided-early d x u) (r ∙ left-before (x .epoch) (omega arith) (omega arith))
-      ]
+        now-outcome : Stands g b es x now → Outcome (contents g b f) (contents g now f) (contents g (left b es (length es)) f) (decided d x)
+        now-outcome (hid n s) =
+            let r : contents g now f ≡ contents g (left b es (x .epoch)) f = s .reads f f-lt in
+            elim (decide (x .epoch) d) [
+              | inl e ↦ alike (left-alike f f-lt (x .epoch) e x-lt n) (r ∙ left-before f f-lt (x .epoch) (omega arith) (omega arith))
+              | inr m ↦ away m r
+            ]
+        now-outcome (stayed t z) =
+            let r : contents g now f ≡ contents g (left b es (x .epoch)) f = ap (λ (c : List ℕ). contents g c f) z in
+            elim (decide (x .epoch) d) [
+              | inl e ↦ waiting (decided-same d x e ∙ t) (r ∙ left-before f f-lt (x .epoch) (omega arith) (omega arith))
+              | inr m ↦ away m r
+            ]
+        now-outcome (moved t z) =
+            let r : contents g now f ≡ contents g (left b es (suc (x .epoch))) f = ap (λ (c : List ℕ). contents g c f) z in
+            elim (decide (x .epoch) d) [
+              | inl e ↦ done (decided-same d x e ∙ t) (r ∙ left-after f f-lt (suc (x .epoch)) x-lt (omega arith))
+              | inr m ↦ away m (r ∙ left-keeps f f-lt (x .epoch) x-lt m)
+            ]
 
-      now-outcome : Stands g b es x now → Outcome (contents g b f) (contents g now f) (contents g (left b es (length es)) f) (decided d x)
-      now-outcome (hid n s) =
-          let r : contents g now f ≡ contents g (left b es (x .epoch)) f = s .reads f f-lt in
-          elim (decide (x .epoch) d) [
-            | inl e ↦ alike (left-alike (x .epoch) e x-lt n) (r ∙ left-before (x .epoch) (omega arith) (omega arith))
-            | inr m ↦ away m r
-          ]
-      now-outcome (stayed t z) =
-          let r : contents g now f ≡ contents g (left b es (x .epoch)) f = ap (λ (c : List ℕ). contents g c f) z in
-          elim (decide (x .epoch) d) [
-            | inl e ↦ waiting (decided-same d x e ∙ t) (r ∙ left-before (x .epoch) (omega arith) (omega arith))
-            | inr m ↦ away m r
-          ]
-      now-outcome (moved t z) =
-          let r : contents g now f ≡ contents g (left b es (suc (x .epoch))) f = ap (λ (c : List ℕ). contents g c f) z in
-          elim (decide (x .epoch) d) [
-            | inl e ↦ done (decided-same d x e ∙ t) (r ∙ left-after (suc (x .epoch)) x-lt (omega arith))
-            | inr m ↦ away m (r ∙ left-keeps (x .epoch) x-lt m)
-          ]
-
-      now-safe : (ss : List Store) → 0 < length ss → CutSafe g b now f (contents g (left b es (length es)) f) ss (decided d x)
-      now-safe ss some =
+      now-settled : (ss : List Store) → 0 < length ss → Settled g b now (contents g (left b es (length es))) ss (decided d x)
+      now-settled ss some =
           let s : Stands g b es x now = stands in
-          record {
-            board = now-accepted s;
-            wholly = outcome-wholly (now-outcome s);
-            others = now-others s;
-            planned = λ n. some;
-            decides = outcome-decides (now-outcome s);
-          }
+          record { board = now-accepted s; reads = λ e u. outcome-settled (now-outcome e u s); planned = λ e u n. some }
 
 -- ---- Plans without epochs
 
@@ -228,6 +256,13 @@ module _ (ss : List Store) (none : epochs ss ≡ []) (b : List ℕ) where
   left-none = rw none (left-zero b [])
 
   -- a cut leaves the board, whatever is said to have arrived
+  pub none-settled : (g : Layout) → T (accepted g b) → (x : Cut) (arrived : Bool) → Settled g b (standing ss x b) (contents g b) ss arrived
+  none-settled g ok x arrived = rw (standing-none ss none x b) record { board = ok; reads = λ e u. same arrived (contents g b e); planned = λ e u n. absurd (n refl) }
+    where
+      same : (t : Bool) (l : List ℕ) → l ≡ cond t l l
+      same true l = refl
+      same false l = refl
+
   pub none-safe : (g : Layout) → T (accepted g b) → (f : ℕ) (x : Cut) (arrived : Bool) → CutSafe g b (standing ss x b) f (contents g b f) ss arrived
   none-safe g ok f x arrived = rw (standing-none ss none x b) record {
     board = ok;
@@ -237,11 +272,33 @@ module _ (ss : List Store) (none : epochs ss ≡ []) (b : List ℕ) where
     decides = λ n. absurd (n refl);
   }
 
-pub safe-rule : SafeRule
+-- the rule over all files at once
+pub turn-rule : (g : Layout) → Fits g → (b : List ℕ) → T (accepted g b) → (ss : List Store) (d : ℕ) → OneTurn g b (epochs ss) d → (x : Cut) → Names ss x
+    → Settled g b (standing ss x b) (contents g (left b (epochs ss) (length (epochs ss)))) ss (decided d x)
 unfolding standing left now
-safe-rule g fit b ok f f-lt ss d safe x x-lt = elim (decide (length (epochs ss)) 0) [
+turn-rule g fit b ok ss d safe x x-lt = elim (decide (length (epochs ss)) 0) [
   | inl z ↦
       let none : epochs ss ≡ [] = empty-none (epochs ss) z in
-      rw (left-none ss none b) (none-safe ss none b g ok f x (decided d x))
-  | inr n ↦ now-safe g fit b ok f f-lt (epochs ss) d safe x (omega arith) ss (epochs-some ss (omega arith))
+      rw (left-none ss none b) (none-settled ss none b g ok x (decided d x))
+  | inr n ↦ now-settled g fit b ok (epochs ss) d safe x (omega arith) ss (epochs-some ss (omega arith))
 ]
+
+-- and of one file
+module _ (g : Layout) (fit : Fits g) (b : List ℕ) (ok : T (accepted g b)) (f : ℕ) (es : List (List Store)) (d : ℕ) (safe : SafePlan g b f es d) where
+  left-others : (e : ℕ) → e < files g → e ≢ f → (i : ℕ) → i ≤ length es → contents g (left b es i) e ≡ contents g b e
+  left-others e e-lt n i l = unchanged (λ k. contents g (left b es k) e) 0 i (omega arith) (λ k u v. step k (omega arith)) ∙ ap (λ (c : List ℕ). contents g c e) (left-zero b es)
+    where
+      turn : OneTurn g b es d
+      turn = safe-turn g b f es d safe
+
+      step : (k : ℕ) → k < length es → contents g (left b es (suc k)) e ≡ contents g (left b es k) e
+      step k v = elim (decide (length (getD es k [])) 1) [
+        | inl one ↦ safe .others k v one e e-lt n
+        | inr m ↦ epoch-shows g fit b ok es d turn k v (left-accepted g fit b ok es d turn k (omega arith)) m .reads e e-lt
+      ]
+
+pub safe-rule : SafeRule
+safe-rule g fit b ok f f-lt ss d safe x x-lt =
+    let es : List (List Store) = epochs ss in
+    settled-one g b (standing ss x b) (contents g (left b es (length es))) ss (decided d x) (turn-rule g fit b ok ss d (safe-turn g b f es d safe) x x-lt) f f-lt
+    (λ e u n. left-others g fit b ok f es d safe e u n (length es) (omega arith))

@@ -1,12 +1,12 @@
 -- From steps to safe plans: what has to be known of each step, and that the plan of such steps obeys the power-cut rule and leaves the board with all
 -- steps committed.
-use mathlib.Core.Path.{_≡_, refl, sym, subst, _∙_}
+use mathlib.Core.Path.{_≡_, refl, sym, ap, _∙_}
 use mathlib.Core.Logic.{_≢_, inl, inr}
-use mathlib.Core.Bool.{false}
+use mathlib.Core.Bool.{Bool, false}
 use mathlib.Core.List.{List, [], _∷_, _++_}
 use Prim.Native.Nat.{ℕ, zero, suc, _-_, _<_}
 use native.Mathlib.Omega.{arith}
-use lib.ListN.{length, getD, set}
+use lib.ListN.{length, getD, set, length-set}
 use lib.Seq.{take-length}
 use lib.Dec.{T}
 use borrow.Author.Tests.{eq-eqb, ne-eqb}
@@ -17,11 +17,11 @@ use Rattle.model.specs.Store.{Store, performed, epochs}
 use Rattle.model.specs.Hidden.{hidden}
 use Rattle.model.specs.Plan.{Step, stepEpochs, planEpochs}
 use Rattle.model.specs.Cut.{Cut, Names, standing, lastArrived}
-use Rattle.model.specs.Safe.{left, SafePlan, decided}
-use Rattle.model.specs.Claims.{Shows, CutSafe, Altered}
+use Rattle.model.specs.Safe.{left, decided}
+use Rattle.model.specs.Claims.{Shows}
 use Rattle.model.proofs.Cases.{decide}
-use Rattle.model.proofs.Perform.{performed-append}
-use Rattle.model.proofs.Safety.{left-zero, left-cons, decided-early, decided-same, hidden-shows, none-safe, safe-rule}
+use Rattle.model.proofs.Perform.{All, length-performed, performed-append}
+use Rattle.model.proofs.Safety.{left-zero, left-cons, decided-early, decided-same, hidden-shows, OneTurn, Settled, none-settled, turn-rule}
 
 suc-sub-one : (n : ℕ) → suc n - 1 ≡ n
 suc-sub-one n = omega arith
@@ -32,24 +32,31 @@ suc-sub-one n = omega arith
 unfoldable pub committed : List ℕ → Step → List ℕ
 committed b p = set (performed b (p .hidden)) (p .commit .at) (p .commit .value)
 
+pub length-committed : (b : List ℕ) (p : Step) → length (committed b p) ≡ length b
+unfolding committed
+length-committed b p = length-set (performed b (p .hidden)) (p .commit .at) (p .commit .value) ∙ length-performed b (p .hidden)
+
 -- with those of several steps
 unfoldable pub allCommitted : List ℕ → List Step → List ℕ
 allCommitted b [] = b
 allCommitted b (p ∷ ps) = allCommitted (committed b p) ps
 
--- a step of a change of file f
-pub record SafeStep (g : Layout) (b : List ℕ) (f : ℕ) (p : Step) : Type 0 where
+-- every file reads as `wanted` says
+abbrev pub Reads : Layout → List ℕ → (ℕ → List ℕ) → Type 0
+Reads g b wanted = (e : ℕ) → e < files g → contents g b e ≡ wanted e
+
+-- a step whose stores but the last show nothing, and which leaves the board accepted
+pub record SafeStep (g : Layout) (b : List ℕ) (p : Step) : Type 0 where
   pub hides : T (all (hidden g b) (p .hidden))
   pub accepts : T (accepted g (committed b p))
-  pub others : (e : ℕ) → e < files g → e ≢ f → contents g (committed b p) e ≡ contents g b e
 
--- each of several is one on the board that those before it leave, and all but the last leave file f too as it is
-unfoldable pub SafeSteps : Layout → List ℕ → ℕ → List Step → Type 0
-SafeSteps g b f [] = Unit
-SafeSteps g b f (p ∷ ps) = SafeStep g b f p × (0 < length ps → contents g (committed b p) f ≡ contents g b f) × SafeSteps g (committed b p) f ps
+-- each of several is one on the board that those before it leave, and all but the last leave every file as it reads
+unfoldable pub SafeSteps : Layout → List ℕ → List Step → Type 0
+SafeSteps g b [] = Unit
+SafeSteps g b (p ∷ ps) = SafeStep g b p × (0 < length ps → Reads g (committed b p) (contents g b)) × SafeSteps g (committed b p) ps
 
-module _ (g : Layout) (b : List ℕ) (f : ℕ) where
-  pub one-step : (p : Step) → SafeStep g b f p → SafeSteps g b f (p ∷ [])
+module _ (g : Layout) (b : List ℕ) where
+  pub one-step : (p : Step) → SafeStep g b p → SafeSteps g b (p ∷ [])
   unfolding SafeSteps
   one-step p s = (s, λ l. absurd (omega arith), tt)
 
@@ -63,6 +70,25 @@ steps-stores p ps = by (p .hidden) (p .commit)
     by : (ss : List Store) (c : Store) → concat (stepEpochs ss c ++ planEpochs ps) ≡ ss ++ (c ∷ concat (planEpochs ps))
     by [] c = refl
     by (s ∷ ss) c = refl
+
+-- all but the last of a list
+unfoldable pub front : {A : Type 0} → List A → List A
+front [] = []
+front (x ∷ []) = []
+front (x ∷ y ∷ xs) = x ∷ front (y ∷ xs)
+
+pub front-last : {A : Type 0} (xs : List A) (x : A) → front (xs ++ (x ∷ [])) ≡ xs
+unfolding front
+front-last [] x = refl
+front-last (y ∷ []) x = refl
+front-last (y ∷ z ∷ xs) x = ap (λ (l : List _). y ∷ l) (front-last (z ∷ xs) x)
+
+pub front-all : {A : Type 0} (P : A → Type 0) (xs : List A) (x : A) (ys : List A) → All P xs → P x → All P (front ys) → All P (front (xs ++ (x ∷ ys)))
+unfolding front All
+front-all P [] x [] a p r = tt
+front-all P [] x (y ∷ ys) a p r = (p, r)
+front-all P (z ∷ []) x ys a p r = (a .0, front-all P [] x ys tt p r)
+front-all P (z ∷ w ∷ xs) x ys a p r = (a .0, front-all P (w ∷ xs) x ys (a .1) p r)
 
 pub performed-steps : (b : List ℕ) (ps : List Step) → performed b (concat (planEpochs ps)) ≡ allCommitted b ps
 unfolding performed concat planEpochs committed allCommitted
@@ -118,83 +144,87 @@ decided-last ss l one x x-lt = elim (decide (suc (x .epoch)) (length (epochs ss)
 
 -- ---- Safe plans, one epoch at a time
 
--- what a safe plan asks of an epoch e that makes c of b; where `keeping` holds it must not change file f
-record SafeEpoch (g : Layout) (f : ℕ) (b c : List ℕ) (e : List Store) (keeping : Type 0) : Type 0 where
+-- what is asked of an epoch e that makes c of b; where `keeping` holds it must not change any file
+record SafeEpoch (g : Layout) (b c : List ℕ) (e : List Store) (keeping : Type 0) : Type 0 where
   hides : 1 < length e → T (all (hidden g b) e)
   accepts : length e ≡ 1 → T (accepted g c)
-  keeps : length e ≡ 1 → keeping → contents g c f ≡ contents g b f
-  others : length e ≡ 1 → (o : ℕ) → o < files g → o ≢ f → contents g c o ≡ contents g b o
+  keeps : length e ≡ 1 → keeping → Reads g c (contents g b)
 
-module _ (g : Layout) (f : ℕ) where
-  safe-each : (b : List ℕ) (es : List (List Store)) (d : ℕ) → ((i : ℕ) → i < length es → SafeEpoch g f (left b es i) (left b es (suc i)) (getD es i []) (i ≢ d)) → SafePlan g b f es d
-  safe-each b es d s = record { hides = λ i l. s i l .hides; accepts = λ i l. s i l .accepts; keeps = λ i l. s i l .keeps; others = λ i l. s i l .others }
+module _ (g : Layout) where
+  safe-each : (b : List ℕ) (es : List (List Store)) (d : ℕ) → ((i : ℕ) → i < length es → SafeEpoch g (left b es i) (left b es (suc i)) (getD es i []) (i ≢ d)) → OneTurn g b es d
+  safe-each b es d s = record { hides = λ i l. s i l .hides; accepts = λ i l. s i l .accepts; keeps = λ i l. s i l .keeps }
 
   -- one more epoch in front of a plan in which the last epoch decides
-  safe-cons : (b : List ℕ) (e : List Store) (es : List (List Store)) → SafeEpoch g f b (performed b e) e (0 < length es)
-      → SafePlan g (performed b e) f es (length es - 1) → SafePlan g b f (e ∷ es) (length es)
+  safe-cons : (b : List ℕ) (e : List Store) (es : List (List Store)) → SafeEpoch g b (performed b e) e (0 < length es)
+      → OneTurn g (performed b e) es (length es - 1) → OneTurn g b (e ∷ es) (length es)
   safe-cons b e es s t = safe-each b (e ∷ es) (length es) each
     where
-      each : (i : ℕ) → i < suc (length es) → SafeEpoch g f (left b (e ∷ es) i) (left b (e ∷ es) (suc i)) (getD (e ∷ es) i []) (i ≢ length es)
+      each : (i : ℕ) → i < suc (length es) → SafeEpoch g (left b (e ∷ es) i) (left b (e ∷ es) (suc i)) (getD (e ∷ es) i []) (i ≢ length es)
       each zero l = rw (left-zero b (e ∷ es), left-cons b e es 0, left-zero (performed b e) es)
-          record { hides = s .hides; accepts = s .accepts; keeps = λ one n. s .keeps one (omega arith); others = s .others }
+          record { hides = s .hides; accepts = s .accepts; keeps = λ one n. s .keeps one (omega arith) }
       each (suc i) l =
           let m : i < length es = omega arith in
           rw (left-cons b e es i, left-cons b e es (suc i))
-          record { hides = t .hides i m; accepts = t .accepts i m; keeps = λ one n. t .keeps i m one (omega arith); others = t .others i m }
+          record { hides = t .hides i m; accepts = t .accepts i m; keeps = λ one n. t .keeps i m one (omega arith) }
 
-module _ (g : Layout) (fit : Fits g) (f : ℕ) (f-lt : f < files g) where
+module _ (g : Layout) (fit : Fits g) where
   module _ (b : List ℕ) (ok : T (accepted g b)) where
-    hidden-epoch : (ss : List Store) → T (all (hidden g b) ss) → (keeping : Type 0) → SafeEpoch g f b (performed b ss) ss keeping
+    hidden-epoch : (ss : List Store) → T (all (hidden g b) ss) → (keeping : Type 0) → SafeEpoch g b (performed b ss) ss keeping
     hidden-epoch ss h keeping =
         let s : Shows g b (performed b ss) = hidden-shows g fit b ok ss h in
-        record { hides = λ l. h; accepts = λ one. rw (s .boards) ok; keeps = λ one t. s .reads f f-lt; others = λ one o l n. s .reads o l }
+        record { hides = λ l. h; accepts = λ one. rw (s .boards) ok; keeps = λ one t. s .reads }
 
-    commit-epoch : (p : Step) → SafeStep g b f p → (keeping : Type 0) → (keeping → contents g (committed b p) f ≡ contents g b f)
-        → SafeEpoch g f (performed b (p .hidden)) (committed b p) (p .commit ∷ []) keeping
+    commit-epoch : (p : Step) → SafeStep g b p → (keeping : Type 0) → (keeping → Reads g (committed b p) (contents g b))
+        → SafeEpoch g (performed b (p .hidden)) (committed b p) (p .commit ∷ []) keeping
     commit-epoch p safe keeping kept =
         let s : Shows g b (performed b (p .hidden)) = hidden-shows g fit b ok (p .hidden) (safe .hides) in
         record {
           hides = λ l. absurd (omega arith);
           accepts = λ one. safe .accepts;
-          keeps = λ one t. kept t ∙ sym (s .reads f f-lt);
-          others = λ one o l n. safe .others o l n ∙ sym (s .reads o l);
+          keeps = λ one t e u. kept t e u ∙ sym (s .reads e u);
         }
 
     -- the epoch of hidden stores in front of a commit, if there are any
-    safe-hidden : (ss : List Store) → T (all (hidden g b) ss) → (c : Store) (es : List (List Store)) → SafePlan g (performed b ss) f ((c ∷ []) ∷ es) (length es)
-        → SafePlan g b f (stepEpochs ss c ++ es) (length (stepEpochs ss c ++ es) - 1)
+    safe-hidden : (ss : List Store) → T (all (hidden g b) ss) → (c : Store) (es : List (List Store)) → OneTurn g (performed b ss) ((c ∷ []) ∷ es) (length es)
+        → OneTurn g b (stepEpochs ss c ++ es) (length (stepEpochs ss c ++ es) - 1)
     unfolding stepEpochs performed
     safe-hidden [] h c es t = rw (suc-sub-one (length es)) t
-    safe-hidden (s ∷ ss) h c es t = rw (suc-sub-one (suc (length es))) (safe-cons g f b (s ∷ ss) ((c ∷ []) ∷ es) (hidden-epoch (s ∷ ss) h (0 < suc (length es))) (rw (suc-sub-one (length es)) t))
+    safe-hidden (s ∷ ss) h c es t = rw (suc-sub-one (suc (length es))) (safe-cons g b (s ∷ ss) ((c ∷ []) ∷ es) (hidden-epoch (s ∷ ss) h (0 < suc (length es))) (rw (suc-sub-one (length es)) t))
 
-    safe-step : (p : Step) → SafeStep g b f p → (es : List (List Store)) → (0 < length es → contents g (committed b p) f ≡ contents g b f)
-        → SafePlan g (committed b p) f es (length es - 1) → SafePlan g b f (stepEpochs (p .hidden) (p .commit) ++ es) (length (stepEpochs (p .hidden) (p .commit) ++ es) - 1)
+    safe-step : (p : Step) → SafeStep g b p → (es : List (List Store)) → (0 < length es → Reads g (committed b p) (contents g b))
+        → OneTurn g (committed b p) es (length es - 1) → OneTurn g b (stepEpochs (p .hidden) (p .commit) ++ es) (length (stepEpochs (p .hidden) (p .commit) ++ es) - 1)
     unfolding committed performed
     safe-step p safe es kept t = safe-hidden (p .hidden) (safe .hides) (p .commit) es
-        (safe-cons g f (performed b (p .hidden)) (p .commit ∷ []) es (commit-epoch p safe (0 < length es) kept) t)
+        (safe-cons g (performed b (p .hidden)) (p .commit ∷ []) es (commit-epoch p safe (0 < length es) kept) t)
 
-  pub safe-steps : (b : List ℕ) → T (accepted g b) → (ps : List Step) → SafeSteps g b f ps → SafePlan g b f (planEpochs ps) (length (planEpochs ps) - 1)
+  pub safe-steps : (b : List ℕ) → T (accepted g b) → (ps : List Step) → SafeSteps g b ps → OneTurn g b (planEpochs ps) (length (planEpochs ps) - 1)
   unfolding planEpochs SafeSteps
-  safe-steps b ok [] s = safe-each g f b [] (0 - 1) (λ i l. absurd (omega arith))
+  safe-steps b ok [] s = safe-each g b [] (0 - 1) (λ i l. absurd (omega arith))
   safe-steps b ok (p ∷ ps) s = safe-step b ok p (s .0) (planEpochs ps) (λ l. s .1 (steps-some ps l)) (safe-steps (committed b p) (s .0 .accepts) ps (s .2))
 
+  -- what is wanted, said in another way
+  pub settled-as : (b b′ : List ℕ) (v w : ℕ → List ℕ) (ss : List Store) (arrived : Bool) → ((e : ℕ) → e < files g → v e ≡ w e) → Settled g b b′ v ss arrived → Settled g b b′ w ss arrived
+  settled-as b b′ v w ss arrived same s = record {
+    board = s .board;
+    reads = λ e u. rw (← (same e u)) (s .reads e u);
+    planned = λ e u n. s .planned e u (λ z. n (z ∙ same e u));
+  }
+
   -- a plan of such steps obeys the power-cut rule
-  pub steps-rule : (b : List ℕ) → T (accepted g b) → (ps : List Step) → SafeSteps g b f ps → (wanted : List ℕ) → contents g (allCommitted b ps) f ≡ wanted
-      → (ss : List Store) → epochs ss ≡ planEpochs ps → (x : Cut) → Names ss x → CutSafe g b (standing ss x b) f wanted ss (lastArrived ss x)
+  pub steps-rule : (b : List ℕ) → T (accepted g b) → (ps : List Step) → SafeSteps g b ps → (wanted : ℕ → List ℕ) → Reads g (allCommitted b ps) wanted
+      → (ss : List Store) → epochs ss ≡ planEpochs ps → (x : Cut) → Names ss x → Settled g b (standing ss x b) wanted ss (lastArrived ss x)
   unfolding planEpochs allCommitted
-  steps-rule b ok [] s wanted reads ss e x x-lt = subst (λ (w : List ℕ). CutSafe g b (standing ss x b) f w ss (lastArrived ss x)) reads (none-safe ss e b g ok f x (lastArrived ss x))
+  steps-rule b ok [] s wanted reads ss e x x-lt = settled-as b (standing ss x b) (contents g b) wanted ss (lastArrived ss x) reads (none-settled ss e b g ok x (lastArrived ss x))
   steps-rule b ok (p ∷ ps) s wanted reads ss e x x-lt =
-      let safe : SafePlan g b f (epochs ss) (length (epochs ss) - 1) = rw e (safe-steps b ok (p ∷ ps) s) in
+      let safe : OneTurn g b (epochs ss) (length (epochs ss) - 1) = rw e (safe-steps b ok (p ∷ ps) s) in
       let some : 0 < length (epochs ss) = rw e (step-some (p .hidden) (p .commit) (planEpochs ps)) in
       let ends : EndsInOne (epochs ss) = rw e (ends-in-one (p ∷ ps)) in
       let whole : left b (epochs ss) (length (epochs ss)) ≡ allCommitted b (p ∷ ps) = rw e (left-steps b (p ∷ ps)) in
-      rw (whole, reads, decided-last ss some ends x x-lt) at (safe-rule g fit b ok f f-lt ss (length (epochs ss) - 1) safe x x-lt)
+      settled-as b (standing ss x b) (contents g (allCommitted b (p ∷ ps))) wanted ss (lastArrived ss x) reads
+      (rw (whole, decided-last ss some ends x x-lt) at (turn-rule g fit b ok ss (length (epochs ss) - 1) safe x x-lt))
 
--- performed whole, it alters file f alone
-pub steps-altered : (g : Layout) (b : List ℕ) → T (accepted g b) → (f : ℕ) (ps : List Step) → SafeSteps g b f ps → (wanted : List ℕ) → contents g (allCommitted b ps) f ≡ wanted
-    → Altered g b (allCommitted b ps) f wanted
+-- performed whole, it leaves the board accepted
+pub steps-accepted : (g : Layout) (b : List ℕ) → T (accepted g b) → (ps : List Step) → SafeSteps g b ps → T (accepted g (allCommitted b ps))
 unfolding allCommitted SafeSteps
-steps-altered g b ok f [] s wanted reads = record { board = ok; file = reads; others = λ e l n. refl }
-steps-altered g b ok f (p ∷ ps) s wanted reads =
-    let a : Altered g (committed b p) (allCommitted (committed b p) ps) f wanted = steps-altered g (committed b p) (s .0 .accepts) f ps (s .2) wanted reads in
-    record { board = a .board; file = reads; others = λ e l n. a .others e l n ∙ s .0 .others e l n }
+steps-accepted g b ok [] s = ok
+steps-accepted g b ok (p ∷ ps) s = steps-accepted g (committed b p) (s .0 .accepts) ps (s .2)

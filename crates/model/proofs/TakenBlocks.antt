@@ -33,7 +33,7 @@ use Rattle.model.proofs.Grown.{length-levels}
 use Rattle.model.proofs.Shown.{count-kept}
 use Rattle.model.proofs.Census.{census, member-free}
 use Rattle.model.proofs.Taking.{blocksOf}
-use Rattle.model.proofs.Rules.{call-either, plan-stores, accuracy-rule}
+use Rattle.model.proofs.Rules.{call-either, one-stores, accuracy-rule}
 
 -- the first n of a list, by its elements
 pub first-used : (l : List ℕ) (k n : ℕ) → 0 < k → used (λ i. getD l i 0) k 0 n ≡ occ k (take n l)
@@ -52,7 +52,7 @@ fresh-rule g fit b t c slice some k m = elim (call-either g fit b t c slice) [
   | inl d ↦
       let p : Plan = planFor g b c in
       let free-k = member-free g b k (is-true (member k (free g b)) m) in
-      let is : stores (planOf (called g b c slice)) ≡ concat (planEpochs (p .steps)) = ap stores (d .plans) ∙ plan-stores g fit b t (fileOf c) (p .steps) (altered c (contents g b (fileOf c))) (d .good .steps-good) in
+      let is : stores (planOf (called g b c slice)) ≡ concat (planEpochs (p .steps)) = ap stores (d .plans) ∙ one-stores g fit b t (fileOf c) (d .file-in) (altered c (contents g b (fileOf c))) p (d .good .steps-good) in
       let takes = d .good .takes k (free-k .2) in
       let stored-to : List ℕ = blocksOf g (concat (planEpochs (p .steps))) in
       let first : List ℕ = take (p .taken) (free g b) in

@@ -35,7 +35,7 @@ pub record Takes (g : Layout) (b : List ℕ) (fresh : ℕ → ℕ) (c c′ : ℕ
   pub commit-live : 0 < occ (p .commit .at / g .words) (liveBlocks g b)
 
 module _ (g : Layout) (pos : 0 < g .words) (fresh : ℕ → ℕ) (q : ℕ) where
-  blocks-append : (xs ys : List Store) → occ q (blocksOf g (xs ++ ys)) ≡ occ q (blocksOf g xs) + occ q (blocksOf g ys)
+  pub blocks-append : (xs ys : List Store) → occ q (blocksOf g (xs ++ ys)) ≡ occ q (blocksOf g xs) + occ q (blocksOf g ys)
   blocks-append xs ys = rw (map-append (λ (s : Store). s .at / g .words) xs ys) (occ-append q (blocksOf g xs) (blocksOf g ys))
 
   -- W stores to one block

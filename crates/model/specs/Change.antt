@@ -132,9 +132,24 @@ module _ (W : ℕ) (fresh : ℕ → ℕ) (b : List ℕ) where
       let below : Shadow = descend h (cell W b (suc k) j / W) (n - j * span W h) (o % span W h) new c (W * suc k + j) in
       cond (leb (o % span W h + length new) (span W h)) below here
 
--- word j of *a fresh copy of the inode leaf*, the block of the inode at address a, *with new root* r *and size* s: a page of way 6
+-- new root and size for the inode at word `place` of its leaf
+pub record Slot : Type 0 where
+  pub place : ℕ
+  pub root : ℕ
+  pub size : ℕ
+
+-- word j of a leaf where w stood, with inodes of that leaf replaced
+unfoldable pub replaced : List Slot → ℕ → ℕ → ℕ
+replaced [] j w = w
+replaced (i ∷ is) j w = cond (eqb j (i .place)) (i .root) (cond (eqb j (i .place + 1)) (i .size) (replaced is j w))
+
+-- *a fresh copy of the inode leaf*, block k, with inodes of it replaced
+unfoldable pub copiedLeaf : ℕ → List ℕ → ℕ → List Slot → Page
+copiedLeaf W b k is j = replaced is j (cell W b k j)
+
+-- *a fresh copy of the inode leaf*, the block of the inode at address a, *with new root* r *and size* s: a page of way 6
 unfoldable pub leafPage : ℕ → List ℕ → ℕ → ℕ → ℕ → Page
-leafPage W b a r s j = cond (eqb j (a % W)) r (cond (eqb j (a % W + 1)) s (cell W b (a / W) j))
+leafPage W b a r s = copiedLeaf W b (a / W) (record { place = a % W; root = r; size = s } ∷ [])
 
 module _ (g : Layout) (fresh : ℕ → ℕ) (b : List ℕ) (n : Inode) where
   -- the commit keeps its word's low bits: a root's height, 0 in any other live pointer

@@ -8,7 +8,7 @@ use lib.ListN.{length, set, replicate}
 use borrow.Author.Tests.{eq-eqb, ne-eqb}
 use Rattle.model.specs.Lists.{tabulate}
 use Rattle.model.specs.Tree.{cell}
-use Rattle.model.specs.Change.{leafPage}
+use Rattle.model.specs.Change.{replaced, copiedLeaf, leafPage}
 use Rattle.words.specs.Filled.{Filled}
 use Rattle.words.proofs.Filling
 
@@ -29,15 +29,15 @@ module _ {c : List ℕ} {at root size : ℕ} where
         record { few = omega arith; whole = Filling.same-length next (omega arith); words = next }
 
     pub the-root : j < 8 → j ≡ at % 8 → Copied c at root size (j + 1) (set page j root)
-    unfolding leafPage
+    unfolding leafPage copiedLeaf replaced
     the-root l e = one l (rw (eq-eqb j (at % 8) e))
 
     pub the-size : j < 8 → j ≢ at % 8 → j ≡ at % 8 + 1 → Copied c at root size (j + 1) (set page j size)
-    unfolding leafPage
+    unfolding leafPage copiedLeaf replaced
     the-size l f e = one l (rw (ne-eqb j (at % 8) f, eq-eqb j (at % 8 + 1) e))
 
     pub kept : {v : ℕ} → j < 8 → j ≢ at % 8 → j ≢ at % 8 + 1 → v ≡ cell 8 c (at / 8) j → Copied c at root size (j + 1) (set page j v)
-    unfolding leafPage
+    unfolding leafPage copiedLeaf replaced
     kept l f g e = one l (rw (ne-eqb j (at % 8) f, ne-eqb j (at % 8 + 1) g, e))
 
     pub all : j ≡ 8 → page ≡ tabulate 8 (leafPage 8 c at root size)
