@@ -8,12 +8,12 @@ use native.Mathlib.Omega.{arith}
 use native.Mathlib.Nat.{mod-lt, div-add-mod', mul-comm, le-div-iff-mul-le}
 use lib.ListN.{length}
 use lib.Dec.{T, leb, ltb, eqb, leb→le, ltb→lt, lt→ltb, eqb→eq}
-use Rattle.model.specs.Lists.{every, distinct}
+use Rattle.model.specs.Lists.{every, distinct, occ}
 use Rattle.model.specs.Layout.{Layout, Fits, files}
 use Rattle.model.specs.Tree.{sound}
 use Rattle.model.specs.Board.{rootSound, trailerWord, greatest, blockCount, trailer, inodeBlock, inodePointer, leaf, root, size, liveBlocks, inRange, wordCountSound, trailerSound, leafSound, fileSound, treesSound, accepted}
 use Rattle.model.proofs.Cases.{split, and-left, and-right, and-both, every-of, every-all}
-use Rattle.model.proofs.Counting.{occ, distinct-occ, occ-distinct}
+use Rattle.model.proofs.Counting.{distinct-occ, occ-distinct}
 use Rattle.model.proofs.Perform.{block-on}
 use Rattle.model.proofs.Trees.{sound-dead}
 use Rattle.model.proofs.Shown.{words-pos}

@@ -9,12 +9,12 @@ use native.Mathlib.Nat.{zero-add}
 use lib.ListN.{length, getD, set, length-set}
 use lib.Seq.{getD-set-same, getD-set-other}
 use lib.Dec.{T}
-use Rattle.model.specs.Lists.{tabulate, joined, sum, all, concat}
+use Rattle.model.specs.Lists.{tabulate, joined, sum, all, concat, one, occ}
 use Rattle.model.specs.Tree.{cell}
 use Rattle.model.specs.Store.{Store, store, performed}
 use Rattle.model.specs.Fresh.{Page, stored}
 use Rattle.model.proofs.Cases.{decide, and-left, and-right, and-both}
-use Rattle.model.proofs.Counting.{one, occ, one-same, one-other, sum-none, sum-once}
+use Rattle.model.proofs.Counting.{one-same, one-other, sum-none, sum-once}
 use Rattle.model.proofs.Perform.{All, all-append, performed-away, address-block, pageStore}
 use Rattle.model.proofs.Built.{held, used, used-add, used-one}
 

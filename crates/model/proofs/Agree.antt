@@ -10,12 +10,12 @@ use lib.ListN.{length, getD, set}
 use lib.Seq.{getD-set-same, getD-set-other, set-out}
 use lib.Dec.{T, ltb, lt→ltb, ltb→lt}
 use borrow.Author.Tests.{lt-ltb, le-ltb}
-use Rattle.model.specs.Lists.{sum}
+use Rattle.model.specs.Lists.{sum, one, occ}
 use Rattle.model.specs.Words.{byteOf}
 use Rattle.model.specs.Tree.{seen, span, aligned, cell, link, blocks, sound}
 use Rattle.model.proofs.Cases.{split, decide, and-left, and-right, and-both, every-of, every-all, every-cong, joined-cong}
 use Rattle.model.proofs.Sums.{sum-at, sum-zero}
-use Rattle.model.proofs.Counting.{one, occ, one-same, occ-joined}
+use Rattle.model.proofs.Counting.{one-same, occ-joined}
 use Rattle.model.proofs.Spans.{child, span-pos}
 use Rattle.model.proofs.Perform.{address-block}
 use Rattle.model.proofs.Trees.{blocks-dead, blocks-null, sound-dead, sound-null, childBlocks}

@@ -8,12 +8,13 @@ use native.Mathlib.Omega.{arith}
 use native.Mathlib.Nat.{add-zero, div-add-mod'}
 use lib.ListN.{length, getD, set, length-set}
 use lib.Seq.{getD-set-same, getD-set-other}
+use Rattle.model.specs.Lists.{one, occ}
 use Rattle.model.specs.Layout.{Layout, Fits, files}
 use Rattle.model.specs.Tree.{cell}
 use Rattle.model.specs.Board.{blockCount, trailer, inodeBlock, inodePointer, leaf, rootAddress, sizeAddress, root, size, rootBlocks, fileBlocks, liveBlocks}
 use Rattle.model.proofs.Cases.{decide}
 use Rattle.model.proofs.Sums.{sum-at, sum-two}
-use Rattle.model.proofs.Counting.{one, occ, one-same, one-apart}
+use Rattle.model.proofs.Counting.{one-same, one-apart}
 use Rattle.model.proofs.Agree.{agree-away, cell-away, agree}
 use Rattle.model.proofs.Shown.{words-pos, occ-live, leaf-live, file-live, leaf-of, count-kept, inode-block-of, root-block, size-block, Same}
 use Rattle.model.proofs.Accepting.{Facts, Ranged, address-on-board}

@@ -7,7 +7,7 @@ use Prim.Native.Nat.{ℕ, zero, suc, _+_, _-_, _*_, _/_, _%_, _≤_, _<_}
 use native.Mathlib.Omega.{arith}
 use native.Mathlib.Nat.{zero-add, add-zero, mul-div-cancel-left, mul-mod-right, zero-mod, zero-div}
 use lib.ListN.{length, length-append}
-use Rattle.model.specs.Lists.{joined, sum}
+use Rattle.model.specs.Lists.{tabulate, joined, sum, one, occ}
 use Rattle.model.specs.Words.{byteOf}
 use Rattle.model.specs.Tree.{seen, span, cell, link}
 use Rattle.model.specs.Fresh.{Page, splice, part, partLength, touched, freshNeed, freshBefore, need, dataPage, pointerPage, build}
@@ -15,7 +15,7 @@ use Rattle.model.specs.GivenUp.{pathBlocks}
 use Rattle.model.specs.Claims.{FreshBlockRule}
 use Rattle.model.proofs.Cases.{split, decide, either, length-joined}
 use Rattle.model.proofs.Sums.{sum-cong, sum-split}
-use Rattle.model.proofs.Counting.{one, occ}
+use Rattle.model.proofs.Counting.{occ-tabulate}
 use Rattle.model.proofs.Bytes.{byteOf-lt, byteOf-wordOf}
 use Rattle.model.proofs.Agree.{byteAt, agree, agree-none, seen-live, seen-dead, seen-lt, link-cell, agree-child, occ-data, sound-leaf, aligned-zero, aligned-full}
 use Rattle.model.proofs.Splice.{Small, Reach, length-part, small-part, reach-child, part-fits, splice-small, splice-skip, choose-zero, choose-pos, bytes-small}
@@ -32,6 +32,10 @@ module _ (fresh : ℕ → ℕ) where
   -- how often q is among m fresh blocks from c on
   unfoldable pub used : ℕ → ℕ → ℕ → ℕ
   used q c m = sum m (λ i. one q (fresh (c + i)))
+
+  pub used-first : (q n : ℕ) → occ q (tabulate n fresh) ≡ used q 0 n
+  unfolding used
+  used-first q n = occ-tabulate q n fresh ∙ sum-cong n _ _ (λ j l. ap (λ (x : ℕ). one q (fresh x)) (sym (zero-add j)))
 
   pub used-add : (q c m n : ℕ) → used q c (m + n) ≡ used q c m + used q (c + m) n
   unfolding used

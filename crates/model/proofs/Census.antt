@@ -8,7 +8,7 @@ use Prim.Native.Nat.{ℕ, zero, suc, _+_, _-_, _≤_, _<_}
 use native.Mathlib.Omega.{arith}
 use lib.ListN.{length, length-append, getD}
 use borrow.Author.Tests.{eq-eqb, ne-eqb, not-true}
-use Rattle.model.specs.Lists.{tabulate, joined, sum, consIf, pickFrom, member}
+use Rattle.model.specs.Lists.{tabulate, joined, sum, consIf, pickFrom, member, occ}
 use Rattle.model.specs.Layout.{Layout, house, files}
 use Rattle.model.specs.Board.{blockCount, leaf, rootHeight, rootBlock, rootBlocks, fileBlocks, liveBlocks, free}
 use Rattle.model.specs.Lister.{heldCount}
@@ -17,7 +17,7 @@ use Rattle.model.proofs.Cases.{split, decide, either, length-joined}
 use Rattle.model.proofs.Perform.{length-tabulate}
 use Rattle.model.proofs.Trees.{blocks-dead}
 use Rattle.model.proofs.Formatted.{house-fits}
-use Rattle.model.proofs.Counting.{occ, one-same, member-none, member-some}
+use Rattle.model.proofs.Counting.{one-same, member-none, member-some}
 use Rattle.model.proofs.Accepting.{Facts, facts}
 use Rattle.model.proofs.Ranges.{live-range}
 

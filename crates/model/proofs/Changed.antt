@@ -8,12 +8,11 @@ use native.Mathlib.Omega.{arith}
 use native.Mathlib.Nat.{mod-lt, div-add-mod'}
 use lib.ListN.{length}
 use lib.Dec.{T}
-use Rattle.model.specs.Lists.{sum}
+use Rattle.model.specs.Lists.{sum, one, occ}
 use Rattle.model.specs.Tree.{seen, span, aligned, link, blocks, sound}
 use Rattle.model.specs.Fresh.{splice, part, touched}
 use Rattle.model.proofs.Cases.{split}
 use Rattle.model.proofs.Sums.{sum-cong, sum-add}
-use Rattle.model.proofs.Counting.{one, occ}
 use Rattle.model.proofs.Spans.{child, span-pos}
 use Rattle.model.proofs.Agree.{byteAt, byteAt-null, byteAt-past, seen-live, seen-dead, agree, agree-byte, agree-blocks, agree-sound, occ-node, beneath, sound-child, sound-node, byteAt-size, blocks-none, sound-none, blocks-full, sound-full}
 use Rattle.model.proofs.Splice.{Cover, Reach, splice-none, splice-part}

@@ -6,9 +6,9 @@ use Prim.Native.Nat.{ℕ, _+_, _/_, _≤_, _<_}
 use native.Mathlib.Omega.{arith}
 use lib.ListN.{length, length-set, set}
 use lib.Dec.{T}
+use Rattle.model.specs.Lists.{one, occ}
 use Rattle.model.specs.Layout.{Layout, Fits, files}
 use Rattle.model.specs.Board.{trailer, inodePointer, leaf, sizeAddress, liveBlocks, accepted}
-use Rattle.model.proofs.Counting.{one, occ}
 use Rattle.model.proofs.Shown.{Same, words-pos, leaf-of, same-accepted, same-address, same-blocks, trailer-kept, inode-kept, leaf-kept, leaf-sound-kept}
 use Rattle.model.proofs.Accepting.{accepted-parts, Facts, facts}
 use Rattle.model.proofs.Commits.{FileCommit, OneFile, Outcome, one-file, one-file-counts, others-from}

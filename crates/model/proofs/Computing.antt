@@ -1,5 +1,5 @@
 -- One name for all definitions, for proofs by computation: with `unfolding computes` every definition of specs/ unfolds.
-use Rattle.model.specs.Lists.{tabulate, joined, sum, every, some, all, consIf, filter, concat, pickFrom, member, distinct, choose}
+use Rattle.model.specs.Lists.{tabulate, joined, sum, every, some, all, consIf, filter, concat, pickFrom, member, distinct, one, occ, choose}
 use Rattle.model.specs.Words.{byteOf, wordOf, wordsOf}
 use Rattle.model.specs.Layout.{files}
 use Rattle.model.specs.Tree.{live, seen, ending, span, least, aligned, cell, link, walk, shown, blocks, sound}
@@ -13,13 +13,13 @@ use Rattle.model.specs.Change.{levelPage, levelBelow, levels, levelTop, 
 use Rattle.model.specs.GivenUp.{own, pathBlocks, insideBlocks, droppedBlocks, wayGives, lengthGives, someGives, writeGives}
 use Rattle.model.specs.Format.{inodePage, formatPages, trailerAddress, trailerStores, formatPlan}
 use Rattle.model.specs.Answers.{number, signed, answered, unlessRefused, counted}
-use Rattle.model.specs.Calls.{wordCountFault, boardFaults, fileFaults, checkAnswer, freeCountAnswer, sizeAnswer, readCount, readAnswer, readBuffer, planned, lowest, writeFaults, write, setLength, format, performFaults, performAnswer, performBoard}
+use Rattle.model.specs.Calls.{wordCountFault, boardFaults, fileFaults, checkAnswer, freeCountAnswer, sizeAnswer, readCount, readAnswer, readBuffer, planned, writeFaults, writeFrom, lowest, write, setLength, format, performFaults, performAnswer, performBoard}
 use Rattle.model.specs.Cabinet.{imageFaults, imageCheckAnswer, imageCheck, imageSize, imageReadAnswer, imageRead, imageReadBuffer}
 use Rattle.model.specs.Lister.{digits, decimal, field, line, heldCount, fileLine, boardLines, answerLines, listing}
-use Rattle.model.specs.Cut.{fileOf, called, planOf, overwritten, altered, after, chosen, standing, lastArrived}
+use Rattle.model.specs.Cut.{fileOf, calledFrom, called, planFrom, planFor, givenUp, planOf, overwritten, altered, after, chosen, standing, lastArrived}
 
 unfoldable pub computes : Unit {0}
-unfolding tabulate joined sum every some all consIf filter concat pickFrom member distinct choose
+unfolding tabulate joined sum every some all consIf filter concat pickFrom member distinct one occ choose
     byteOf wordOf wordsOf
     files
     live seen ending span least aligned cell link walk shown blocks sound
@@ -33,8 +33,8 @@ unfolding tabulate joined sum every some all consIf filter concat pickFrom membe
     own pathBlocks insideBlocks droppedBlocks wayGives lengthGives someGives writeGives
     inodePage formatPages trailerAddress trailerStores formatPlan
     number signed answered unlessRefused counted
-    wordCountFault boardFaults fileFaults checkAnswer freeCountAnswer sizeAnswer readCount readAnswer readBuffer planned lowest writeFaults write setLength format performFaults performAnswer performBoard
+    wordCountFault boardFaults fileFaults checkAnswer freeCountAnswer sizeAnswer readCount readAnswer readBuffer planned writeFaults writeFrom lowest write setLength format performFaults performAnswer performBoard
     imageFaults imageCheckAnswer imageCheck imageSize imageReadAnswer imageRead imageReadBuffer
     digits decimal field line heldCount fileLine boardLines answerLines listing
-    fileOf called planOf overwritten altered after chosen standing lastArrived
+    fileOf calledFrom called planFrom planFor givenUp planOf overwritten altered after chosen standing lastArrived
 computes = tt

@@ -1,24 +1,17 @@
 -- Counting how often a number occurs. 'No block is reached twice' is that none occurs more than once; counts add up over lists and loops.
-use mathlib.Core.Path.{_≡_, refl, sym, subst}
+use mathlib.Core.Path.{_≡_, refl, sym, ap, _∙_, subst}
 use mathlib.Core.Logic.{_≢_, inl, inr, _↔_}
 use mathlib.Core.Bool.{true, false, not}
 use mathlib.Core.List.{List, [], _∷_, _++_}
 use Prim.Native.Nat.{ℕ, zero, suc, _+_, _≤_, _<_}
 use native.Mathlib.Omega.{arith}
 use native.Mathlib.Nat.{zero-add}
-use lib.Dec.{T, eqb, T-not}
+use lib.ListN.{length, getD, take, List·getD-eq-default}
+use lib.Seq.{take-all, take-suc}
+use lib.Dec.{T, T-not}
 use borrow.Author.Tests.{eq-eqb, ne-eqb}
-use Rattle.model.specs.Lists.{tabulate, joined, sum, member, distinct}
+use Rattle.model.specs.Lists.{tabulate, joined, sum, member, distinct, one, occ}
 use Rattle.model.proofs.Cases.{split, decide, and-left, and-right, and-both}
-
--- 1 where the two are equal, else 0
-unfoldable pub one : ℕ → ℕ → ℕ
-one q x = elim (eqb q x) [ true ↦ 1 | false ↦ 0 ]
-
--- how often q occurs
-unfoldable pub occ : ℕ → List ℕ → ℕ
-occ q [] = 0
-occ q (x ∷ xs) = one q x + occ q xs
 
 pub one-same : (q : ℕ) → one q q ≡ 1
 unfolding one
@@ -52,6 +45,19 @@ pub occ-tabulate : (q n : ℕ) (f : ℕ → ℕ) → occ q (tabulate n f) ≡ su
 unfolding tabulate sum occ
 occ-tabulate q zero f = refl
 occ-tabulate q (suc n) f = omega (arith, occ-tabulate q n f, occ-append q (tabulate n f) (f n ∷ []))
+
+-- the first n of a list, by its elements; past its end there are zeros
+pub occ-first : (l : List ℕ) (k n : ℕ) → 0 < k → occ k (tabulate n (λ i. getD l i 0)) ≡ occ k (take n l)
+unfolding tabulate occ
+occ-first l k zero pos = refl
+occ-first l k (suc n) pos =
+    let more = occ-append k (tabulate n (λ i. getD l i 0)) (getD l n 0 ∷ []) in
+    elim (split (length l) n) [
+      | inl past ↦
+          let all-of : take (suc n) l ≡ take n l = take-all (suc n) l (omega arith) ∙ sym (take-all n l past) in
+          rw all-of (omega (arith, more, occ-first l k n pos, one-other k 0 (omega arith), ap (one k) (List·getD-eq-default l 0 past)))
+      | inr m ↦ rw (take-suc l n 0 m) (omega (arith, more, occ-first l k n pos, occ-append k (take n l) (getD l n 0 ∷ [])))
+    ]
 
 pub member-none : (q : ℕ) (l : List ℕ) → occ q l ≡ 0 → member q l ≡ false
 unfolding member occ

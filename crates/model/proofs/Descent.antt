@@ -11,6 +11,7 @@ use native.Mathlib.Nat.{mod-lt, mod-eq-of-lt, div-add-mod', mod-mod-of-dvd, dvd-
 use lib.ListN.{length, getD}
 use lib.Dec.{T, eqb→eq}
 use borrow.Author.Tests.{le-leb, lt-leb}
+use Rattle.model.specs.Lists.{occ}
 use Rattle.model.specs.declared.WalkEnd.the-variants.{Block, Hole}
 use Rattle.model.specs.declared.WalkEnd.{WalkEnd}
 use Rattle.model.specs.Words.{byteOf}
@@ -20,7 +21,7 @@ use Rattle.model.specs.InPlace.{atBlock}
 use Rattle.model.specs.Change.{splicedWord, Shadow, descend}
 use Rattle.model.proofs.Cases.{split, decide}
 use Rattle.model.proofs.Sums.{sum-at, sum-two, only, only-same, only-other, sum-only-at}
-use Rattle.model.proofs.Counting.{occ, one-same}
+use Rattle.model.proofs.Counting.{one-same}
 use Rattle.model.proofs.Bytes.{byteOf-lt, byteOf-wordOf}
 use Rattle.model.proofs.Spans.{span-power, child}
 use Rattle.model.proofs.Perform.{address-block}

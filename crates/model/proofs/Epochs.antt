@@ -9,12 +9,12 @@ use native.Mathlib.Omega.{arith}
 use native.Mathlib.Nat.{zero-add}
 use lib.ListN.{length, getD, take, drop, List·getD-eq-default, length-append}
 use lib.Seq.{sets, sets-eq, take-append-seam, take-nil, getD-append-add}
-use lib.Dec.{T, ltb}
+use lib.Dec.{T, ltb, eqb}
 use borrow.Author.Tests.{ltb-false, ne-eqb}
 use Rattle.model.specs.declared.Answer.the-variants.{Done, Refused}
 use Rattle.model.specs.declared.Fault.the-variants.{PlanLength}
 use Rattle.model.specs.declared.Fault.{Fault}
-use Rattle.model.specs.Lists.{consIf, distinct, concat, all}
+use Rattle.model.specs.Lists.{consIf, filter, distinct, concat, all}
 use Rattle.model.specs.Store.{Store, store, barrier, isBarrier, performed, opening, epochs, fenced, flat, paired, laid}
 use Rattle.model.specs.Answers.{Faults, answered, unlessRefused, counted}
 use Rattle.model.specs.Calls.{Planned, planned}
@@ -123,17 +123,35 @@ unfolding fenced All
 plan-ended e [] f p = one-ended e (f .0) (p .0)
 plan-ended e (d ∷ es) f p = more-ended e (fenced (d ∷ es)) (f .0) (p .0) (plan-ended d es (f .1) (p .1))
 
+-- none among stores, so those of a plan are its own
+no-barriers : (e r : List Store) → Plain e → filter isBarrier (e ++ r) ≡ filter isBarrier r
+unfolding filter consIf isBarrier All
+no-barriers [] r p = refl
+no-barriers (s ∷ e) r p = rw (ne-eqb (s .at) (2 ^ 64 - 1) (p .0)) (no-barriers e r (p .1))
+
+fenced-zeros : (es : List (List Store)) → All Plain es → T (all (λ s. eqb (s .value) 0) (filter isBarrier (fenced es)))
+unfolding fenced filter consIf isBarrier barrier store all All
+fenced-zeros [] p = tt
+fenced-zeros (e ∷ []) p = subst (λ (x : List Store). T (all (λ s. eqb (s .value) 0) (filter isBarrier x))) (append-nil e) (rw (no-barriers e [] (p .0)) tt)
+fenced-zeros (e ∷ d ∷ es) p = rw (no-barriers e (barrier ∷ fenced (d ∷ es)) (p .0)) (fenced-zeros (d ∷ es) (p .1))
+
 -- an empty plan is shaped as plans must be, and so is one of epochs
 pub shaped-none : Shaped []
-unfolding all epochs
-shaped-none = record { first = past-at [] 0 (omega arith); last = past-at [] 0 (omega arith); apart = λ i. ap (λ (t : Bool). t && barrierAt [] (suc i)) (past-at [] i (omega arith)); once = tt }
+unfolding all filter epochs
+shaped-none = record {
+  first = past-at [] 0 (omega arith);
+  last = past-at [] 0 (omega arith);
+  apart = λ i. ap (λ (t : Bool). t && barrierAt [] (suc i)) (past-at [] i (omega arith));
+  zeros = tt;
+  once = tt;
+}
 
 pub shaped : (es : List (List Store)) → All Full es → All Plain es → All (λ e. T (distinct (addresses e))) es → Shaped (fenced es)
 unfolding fenced All
 shaped [] f p o = shaped-none
 shaped (e ∷ es) f p o =
     let n : Ended (fenced (e ∷ es)) = plan-ended e es f p in
-    record { first = n .first; last = n .last; apart = n .apart; once = rw (epochs-fenced (e ∷ es) f p) (all-holds (λ e. distinct (addresses e)) (e ∷ es) o) }
+    record { first = n .first; last = n .last; apart = n .apart; zeros = fenced-zeros (e ∷ es) p; once = rw (epochs-fenced (e ∷ es) f p) (all-holds (λ e. distinct (addresses e)) (e ∷ es) o) }
 
 -- ---- The lent slice
 

@@ -12,7 +12,7 @@ use lib.Seq.{getD-set-same}
 use lib.Dec.{T, leb, le→leb}
 use Rattle.model.specs.declared.Answer.the-variants.{Refused}
 use Rattle.model.specs.declared.Fault.the-variants.{Trailer}
-use Rattle.model.specs.Lists.{all, member, distinct, concat, consIf, filter}
+use Rattle.model.specs.Lists.{all, member, distinct, concat, consIf, filter, occ}
 use Rattle.model.specs.Layout.{Layout, Fits}
 use Rattle.model.specs.Tree.{cell}
 use Rattle.model.specs.Board.{blockCount, trailer, wordCountSound, trailerSound}
@@ -24,7 +24,7 @@ use Rattle.model.specs.Calls.{wordCountFault, boardFaults, checkAnswer, 
 use Rattle.model.specs.Cut.{chosen}
 use Rattle.model.specs.Claims.{Shaped, FormatPlanRule, FormatRule, Empty}
 use Rattle.model.proofs.Cases.{decide, either, is-true}
-use Rattle.model.proofs.Counting.{occ, occ-distinct, sum-once}
+use Rattle.model.proofs.Counting.{occ-distinct, sum-once}
 use Rattle.model.proofs.Perform.{All, all-append, all-tabulate, length-performed, performed-append, performed-away, blocks-differ, stored-blocks, block-away}
 use Rattle.model.proofs.Addresses.{addresses, addresses-away, occ-addresses-append, occ-addresses-tabulate, used-once, stored-once, all-holds}
 use Rattle.model.proofs.Epochs.{Full, epochs-fenced, shaped, shaped-none, planned-either, all-chosen, standing-epochs, standing-none}

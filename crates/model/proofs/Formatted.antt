@@ -10,7 +10,7 @@ use lib.ListN.{length, getD, set, length-set, length-append, length-replicate, g
 use lib.Seq.{getD-set-same, getD-set-other}
 use lib.Dec.{T, eqb, eqb-refl, lit≤, lit<}
 use borrow.Author.Tests.{le-leb, lt-ltb}
-use Rattle.model.specs.Lists.{tabulate, every, concat}
+use Rattle.model.specs.Lists.{tabulate, every, concat, occ}
 use Rattle.model.specs.Layout.{Layout, Fits, house, files}
 use Rattle.model.specs.Tree.{cell}
 use Rattle.model.specs.Board.{rootBlocks, rootSound, trailerWord, greatest, blockCount, trailer, inodeBlock, inodePointer, leaf, rootAddress, sizeAddress, root, size, contents, fileBlocks, liveBlocks, inRange, wordCountSound, trailerSound, leafSound, fileSound}
@@ -20,7 +20,7 @@ use Rattle.model.specs.Fresh.{Page, stored}
 use Rattle.model.specs.Format.{inodePage, formatPages, trailerAddress, trailerStores, formatPlan}
 use Rattle.model.specs.Claims.{Empty}
 use Rattle.model.proofs.Cases.{decide, and-both, every-all, tabulate-cong, joined-none}
-use Rattle.model.proofs.Counting.{occ, one-same, one-other, occ-append, occ-tabulate, sum-none, sum-once}
+use Rattle.model.proofs.Counting.{one-same, one-other, occ-append, occ-tabulate, sum-none, sum-once}
 use Rattle.model.proofs.Perform.{All, Plain, all-append, all-tabulate, length-tabulate, length-performed, performed-append, performed-away, performed-tabulate, stores-fenced, address-block, block-on, blocks-differ, length-stored, stored-blocks, stored-cell}
 use Rattle.model.proofs.Addresses.{all-concat}
 use Rattle.model.proofs.Trees.{blocks-dead}

@@ -6,13 +6,13 @@ use mathlib.Core.List.{List, []}
 use Prim.Native.Nat.{ℕ, zero, suc, _+_, _-_, _*_, _/_, _≤_, _<_}
 use native.Mathlib.Omega.{arith}
 use native.Mathlib.Nat.{zero-div}
-use Rattle.model.specs.Lists.{joined, sum}
+use Rattle.model.specs.Lists.{joined, sum, occ}
 use Rattle.model.specs.Tree.{span, cell, link, blocks}
 use Rattle.model.specs.Fresh.{partLength, touched}
 use Rattle.model.specs.GivenUp.{own, pathBlocks, droppedBlocks}
 use Rattle.model.proofs.Cases.{either}
 use Rattle.model.proofs.Sums.{sum-zero, sum-cong, sum-add}
-use Rattle.model.proofs.Counting.{occ, occ-append, occ-joined}
+use Rattle.model.proofs.Counting.{occ-append, occ-joined}
 use Rattle.model.proofs.Agree.{beneath, occ-beneath, occ-node}
 
 occ-none : (q : ℕ) (l : List ℕ) → l ≡ [] → occ q l ≡ 0

@@ -9,6 +9,7 @@ use native.Mathlib.Omega.{arith}
 use lib.ListN.{length, set}
 use lib.Dec.{T, eqb}
 use borrow.Author.Tests.{eq-eqb, ne-eqb}
+use Rattle.model.specs.Lists.{occ}
 use Rattle.model.specs.Layout.{Layout, Fits, files}
 use Rattle.model.specs.Board.{contents, accepted, liveBlocks}
 use Rattle.model.specs.Store.{Store, performed}
@@ -16,7 +17,6 @@ use Rattle.model.specs.Hidden.{hidden}
 use Rattle.model.specs.Plan.{Step}
 use Rattle.model.specs.Fresh.{Page, stored}
 use Rattle.model.proofs.Cases.{decide}
-use Rattle.model.proofs.Counting.{occ}
 use Rattle.model.proofs.Perform.{All}
 use Rattle.model.proofs.Addresses.{addresses, Stands, all-map, all-holds, performed-holds, stands-set, held-of-all}
 use Rattle.model.proofs.Built.{held}

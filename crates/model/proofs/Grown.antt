@@ -8,13 +8,12 @@ use native.Mathlib.Omega.{arith}
 use native.Mathlib.Nat.{zero-add, zero-mul, sub-zero, add-zero, add-suc, div-eq-of-lt, mod-eq-of-lt, le-div-iff-mul-le, mul-div-cancel-left, mul-mod-right, zero-div, zero-mod}
 use lib.ListN.{length}
 use lib.Dec.{T}
-use Rattle.model.specs.Lists.{tabulate, sum}
+use Rattle.model.specs.Lists.{tabulate, sum, one, occ}
 use Rattle.model.specs.Tree.{span, cell, link, walk, blocks, sound}
 use Rattle.model.specs.Fresh.{Page}
 use Rattle.model.specs.Change.{levelPage, levelBelow, levels, levelTop}
 use Rattle.model.proofs.Cases.{split}
 use Rattle.model.proofs.Sums.{sum-cong, only, only-same, only-other, sum-only-at}
-use Rattle.model.proofs.Counting.{one, occ}
 use Rattle.model.proofs.Spans.{child, span-pos, span-mono}
 use Rattle.model.proofs.Perform.{length-tabulate}
 use Rattle.model.proofs.Trees.{walk-null, blocks-null, sound-null}

@@ -10,16 +10,15 @@ use native.Mathlib.Nat.{mod-eq-of-lt, mul-add-mod-self-left, zero-add}
 use lib.ListN.{length, set, length-set}
 use lib.Dec.{T}
 use borrow.Author.Tests.{lt-ltb, le-ltb}
-use Rattle.model.specs.Lists.{concat}
+use Rattle.model.specs.Lists.{concat, occ}
 use Rattle.model.specs.Layout.{Layout, Fits, files}
 use Rattle.model.specs.Tree.{live, span, least}
 use Rattle.model.specs.Board.{rootWalk, rootBlocks, greatest, blockCount, inodeBlock, rootAddress, sizeAddress, root, size, walkTo, contents, fileBlocks, liveBlocks, accepted}
 use Rattle.model.specs.Store.{Store, store, performed}
-use Rattle.model.specs.Plan.{Step, step, Plan, plan, planEpochs}
+use Rattle.model.specs.Plan.{Step, step, plan, planEpochs}
 use Rattle.model.specs.Fresh.{Page, stored}
 use Rattle.model.specs.Change.{levels, levelTop, growing, grownRoot, growthTo}
 use Rattle.model.proofs.Cases.{split}
-use Rattle.model.proofs.Counting.{occ}
 use Rattle.model.proofs.Spans.{span-mono, least-reaches, least-within, least-above}
 use Rattle.model.proofs.Perform.{All, address-block}
 use Rattle.model.proofs.Trees.{live-some}

@@ -10,7 +10,7 @@ use lib.ListN.{length, getD, set, length-set}
 use lib.Seq.{getD-set-same, getD-set-other, set-out}
 use lib.Dec.{T, leb, eqb, leb→le, eqb→eq}
 use lib.Ieee.Bits.{is-true}
-use Rattle.model.specs.Lists.{some, all, member}
+use Rattle.model.specs.Lists.{some, all, member, one, occ}
 use Rattle.model.specs.Words.{byteOf}
 use Rattle.model.specs.Layout.{Layout, Fits, files}
 use Rattle.model.specs.Tree.{live, span, cell, link, blocks}
@@ -21,7 +21,7 @@ use Rattle.model.specs.Cut.{chosen}
 use Rattle.model.specs.Claims.{HiddenRule}
 use Rattle.model.proofs.Cases.{split, decide, and-left, and-right, every-of, or-cases, some-of}
 use Rattle.model.proofs.Sums.{sum-two}
-use Rattle.model.proofs.Counting.{one, occ, one-same}
+use Rattle.model.proofs.Counting.{one-same}
 use Rattle.model.proofs.Perform.{All, address-place}
 use Rattle.model.proofs.Epochs.{all-chosen}
 use Rattle.model.proofs.Trees.{childBlocks}

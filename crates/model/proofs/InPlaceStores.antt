@@ -9,7 +9,7 @@ use Prim.Native.Nat.{ℕ, zero, suc, _+_, _-_, _*_, _/_, _%_, _≤_, _<_}
 use native.Mathlib.Omega.{arith}
 use lib.ListN.{length}
 use lib.Dec.{T, leb, eqb, le→leb, eqb-refl}
-use Rattle.model.specs.Lists.{choose}
+use Rattle.model.specs.Lists.{choose, one, occ}
 use Rattle.model.specs.Words.{byteOf}
 use Rattle.model.specs.Tree.{live, span, cell, link, blocks}
 use Rattle.model.specs.Store.{Store, store}
@@ -18,7 +18,7 @@ use Rattle.model.specs.Fresh.{part, partLength, dataPage}
 use Rattle.model.specs.InPlace.{tailBefore, tailWords, hooked, inPlace}
 use Rattle.model.proofs.Cases.{split, and-both, every-all, or-left, or-right, some-at}
 use Rattle.model.proofs.Sums.{sum-le, sum-add}
-use Rattle.model.proofs.Counting.{one, occ, occ-joined}
+use Rattle.model.proofs.Counting.{occ-joined}
 use Rattle.model.proofs.Perform.{All, address-block, address-place}
 use Rattle.model.proofs.Addresses.{addresses, all-joined, all-map, occ-addresses-joined, addresses-counted, block-once}
 use Rattle.model.proofs.Trees.{childBlocks}

@@ -9,6 +9,7 @@ use lib.ListN.{length, getD, set, length-set}
 use lib.Seq.{getD-set-same, getD-set-other}
 use lib.Dec.{T}
 use borrow.Author.Tests.{lt-ltb}
+use Rattle.model.specs.Lists.{occ}
 use Rattle.model.specs.declared.WalkEnd.the-variants.{Block}
 use Rattle.model.specs.Layout.{Layout, Fits, files}
 use Rattle.model.specs.Tree.{span, cell, walk}
@@ -19,7 +20,6 @@ use Rattle.model.specs.Fresh.{stored}
 use Rattle.model.specs.Change.{splicedWord, Shadow, descend}
 use Rattle.model.specs.GivenUp.{insideBlocks}
 use Rattle.model.proofs.Cases.{decide}
-use Rattle.model.proofs.Counting.{occ}
 use Rattle.model.proofs.Perform.{All, address-block}
 use Rattle.model.proofs.Splice.{Small, past-span}
 use Rattle.model.proofs.Built.{used}

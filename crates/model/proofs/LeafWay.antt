@@ -9,6 +9,7 @@ use lib.ListN.{length, getD, set, length-set, length-append}
 use lib.Seq.{getD-set-same, getD-set-other}
 use lib.Dec.{T, eqb}
 use borrow.Author.Tests.{eq-eqb, ne-eqb}
+use Rattle.model.specs.Lists.{one, occ}
 use Rattle.model.specs.Layout.{Layout, Fits, files}
 use Rattle.model.specs.Tree.{span, cell}
 use Rattle.model.specs.Board.{rootBlocks, greatest, blockCount, trailer, inodeBlock, inodePointer, leaf, rootAddress, sizeAddress, root, size, fileBlocks, liveBlocks, inRange, leafSound, accepted}
@@ -17,7 +18,6 @@ use Rattle.model.specs.Plan.{Step, step}
 use Rattle.model.specs.Fresh.{Page, freshNeed, stored, build}
 use Rattle.model.specs.Change.{replaced, copiedLeaf, leafPage}
 use Rattle.model.proofs.Cases.{decide, and-both}
-use Rattle.model.proofs.Counting.{one, occ}
 use Rattle.model.proofs.Perform.{All, address-block, address-place}
 use Rattle.model.proofs.Agree.{agree, frame, cell-away}
 use Rattle.model.proofs.Splice.{Small, Reach, past-span}

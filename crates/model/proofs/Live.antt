@@ -6,11 +6,11 @@ use Prim.Native.Nat.{ℕ, _-_, _<_}
 use native.Mathlib.Omega.{arith}
 use lib.Dec.{ltb}
 use borrow.Author.Tests.{lt-ltb}
-use Rattle.model.specs.Lists.{every, all}
+use Rattle.model.specs.Lists.{every, all, occ}
 use Rattle.model.specs.Layout.{Layout, files}
 use Rattle.model.specs.Board.{blockCount, inodeBlock, liveBlocks, trailerSound, leafSound, fileSound}
 use Rattle.model.proofs.Cases.{every-of, true-left, true-right}
-use Rattle.model.proofs.Counting.{occ, one-same}
+use Rattle.model.proofs.Counting.{one-same}
 use Rattle.model.proofs.Accepting.{inode-range, leaf-range, file-tree}
 use Rattle.model.proofs.Ranges.{Pointers, live-in}
 

@@ -18,8 +18,8 @@ use Rattle.model.specs.Plan.{Plan, plan, planEpochs, afterwards, pairs}
 use Rattle.model.specs.Fresh.{freshNeed, need, build}
 use Rattle.model.specs.InPlace.{atBlock}
 use Rattle.model.specs.Change.{growing, growthTo, growth, singleBlock, isTail, emptyTailTo, emptyTail, tail, shadowWithLength, chosenWay, grownPlan, somePlan, writePlan}
-use Rattle.model.specs.Calls.{lowest, writeFaults, write}
-use Rattle.model.specs.Cut.{called, planFor, overwritten}
+use Rattle.model.specs.Calls.{lowest, writeFaults, writeFrom}
+use Rattle.model.specs.Cut.{calledFrom, called, planFrom, planFor, overwritten}
 use Rattle.model.specs.Claims.{PastEnd, PastEndRule}
 use Rattle.model.proofs.Cases.{split, or-left, or-right}
 use Rattle.model.proofs.Epochs.{planned-either}
@@ -29,7 +29,7 @@ use Rattle.model.proofs.Paths.{touched-new, fresh-quiet}
 use Rattle.model.proofs.Built.{length-build, length-build-null}
 use Rattle.model.proofs.PastTree.{Laid, laid-holes, laid-path, laid-arrives}
 use Rattle.model.proofs.Shown.{words-pos}
-use Rattle.model.proofs.Supplied.{Supply, supply-lowest}
+use Rattle.model.proofs.Supplied.{Supply, supply-order, lowest-rule}
 use Rattle.model.proofs.Steps.{committed, allCommitted, performed-steps}
 use Rattle.model.proofs.SizeWays.{empty-height, empty-block, empty-held}
 use Rattle.model.proofs.LeafWay.{treePages, leafStep, leaf-held, leaf-height, leaf-block, leaf-size}
@@ -172,7 +172,7 @@ module _ (g : Layout) (fit : Fits g) (b : List ℕ) (t : T (accepted g b)) (f : 
   lim = length (free g b)
 
   lent : Supply g b fresh 0 lim
-  lent = supply-lowest g b
+  lent = supply-order g b fresh (lowest-rule g b)
 
   among : (k n : ℕ) → n ≤ lim → (i : ℕ) → k ≤ i → i < n → T (member (fresh i) (drop k (take n (free g b))))
   unfolding lowest
@@ -240,14 +240,14 @@ module _ (g : Layout) (fit : Fits g) (b : List ℕ) (t : T (accepted g b)) (f : 
 -- ---- The rule
 
 pub past-end-rule : PastEndRule
-unfolding called write planFor pairs
+unfolding called calledFrom writeFrom planFor planFrom pairs
 past-end-rule g fit b t f o new slice more past =
     let q : Plan = writePlan g (lowest g b) b f o (new .values) in
     elim (planned-either (writeFaults g b f o (new .values) q) (pairs q) slice) [
       | inl d ↦
           let ok = write-passed g b f o (new .values) q (d .passed) in
           let small : Small (new .values) = bytes-small (new .values) (new .small) in
-          let good = write-good g fit b t f (ok .0) o (lowest g b) (length (free g b)) (supply-lowest g b) (new .values) small (ok .1) (ok .2) in
+          let good = write-good g fit b t f (ok .0) o (lowest g b) (length (free g b)) (supply-order g b (lowest g b) (lowest-rule g b)) (new .values) small (ok .1) (ok .2) in
           let whole : performed b (stores (pairs q)) ≡ allCommitted b (q .steps) =
           ap (performed b) (one-stores g fit b t f (ok .0) (overwritten o (new .values) (contents g b f)) q (good .steps-good)) ∙ performed-steps b (q .steps) in
           rw (d .plans, whole) (plan-past g fit b t f (ok .0) o past (new .values) small (ok .1) (rw (d .plans) at more) (ok .2))

@@ -12,7 +12,7 @@ use lib.Dec.{T}
 use borrow.Author.Tests.{lt-ltb, le-ltb, eq-eqb, ne-eqb}
 use Rattle.model.specs.declared.WalkEnd.{WalkEnd}
 use Rattle.model.specs.declared.WalkEnd.the-variants.{Block, Hole}
-use Rattle.model.specs.Lists.{concat, sum}
+use Rattle.model.specs.Lists.{concat, sum, occ}
 use Rattle.model.specs.Layout.{Layout, Fits, files}
 use Rattle.model.specs.Tree.{span, least}
 use Rattle.model.specs.Board.{greatest, rootAddress, sizeAddress, root, size, inodeOf, contents, liveBlocks, accepted}
@@ -24,7 +24,6 @@ use Rattle.model.specs.Change.{growing, growthTo, growth, grownInode, si
 use Rattle.model.specs.GivenUp.{wayGives, lengthGives, someGives, writeGives}
 use Rattle.model.specs.Cut.{overwritten}
 use Rattle.model.proofs.Cases.{split, decide}
-use Rattle.model.proofs.Counting.{occ}
 use Rattle.model.proofs.Perform.{All}
 use Rattle.model.proofs.Descent.{hole≢block}
 use Rattle.model.proofs.Splice.{Small}

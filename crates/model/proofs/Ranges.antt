@@ -4,13 +4,13 @@ use mathlib.Core.List.{List}
 use Prim.Native.Nat.{ℕ, zero, suc, _-_, _*_, _/_, _%_, _<_}
 use native.Mathlib.Omega.{arith}
 use lib.Dec.{T, ltb→lt}
-use Rattle.model.specs.Lists.{sum}
+use Rattle.model.specs.Lists.{sum, one, occ}
 use Rattle.model.specs.Layout.{Layout, Fits, files}
 use Rattle.model.specs.Tree.{span, cell, link, blocks, sound}
 use Rattle.model.specs.Board.{rootBlocks, blockCount, inodeBlock, leaf, root, size, fileBlocks, liveBlocks}
 use Rattle.model.proofs.Cases.{split, decide}
 use Rattle.model.proofs.Sums.{sum-some}
-use Rattle.model.proofs.Counting.{one, occ, one-other, occ-joined, one-some}
+use Rattle.model.proofs.Counting.{one-other, occ-joined, one-some}
 use Rattle.model.proofs.Trees.{childBlocks}
 use Rattle.model.proofs.Agree.{sound-root, sound-child}
 use Rattle.model.proofs.Shown.{words-pos, occ-live}

@@ -1,16 +1,20 @@
 -- What a call answers whose list of faults begins with another's: the other's answer where that is a refusal, else that of the rest. So a call may
 -- ask the other first.
 use mathlib.Core.Path.{_≡_, refl, _∙_}
-use mathlib.Core.Logic.{_≢_}
-use mathlib.Core.Bool.{Bool, true, false, cond}
+use mathlib.Core.Logic.{_≢_, _↔_}
+use mathlib.Core.Bool.{Bool, true, false, not, cond, _&&_}
 use mathlib.Core.List.{[], _∷_, _++_, append-nil}
 use Prim.Native.Nat.{ℕ}
 use native.Mathlib.Omega.{arith}
+use lib.Dec.{T}
 use Rattle.model.specs.declared.Answer.{Answer}
 use Rattle.model.specs.declared.Answer.the-variants.{Done, Refused}
 use Rattle.model.specs.declared.Fault.{Fault}
 use Rattle.model.specs.declared.Fault.the-variants.{WordCount, Trailer, Damaged, FileNumber, End, FreeBlocks, PlanLength, PairCount, Address}
+use Rattle.model.specs.Board.{wordCountSound, trailerSound, treesSound, accepted}
 use Rattle.model.specs.Answers.{Faults, number, answered, unlessRefused}
+use Rattle.model.specs.Calls.{wordCountFault, boardFaults, checkAnswer}
+use Rattle.model.specs.Claims.{CheckRule}
 
 asked-first : (fs more : Faults) (v n : ℕ) → answered (fs ++ more) n ≡ unlessRefused (answered fs v) (answered more n) (answered fs v)
 unfolding answered unlessRefused
@@ -44,6 +48,17 @@ module _ (fs : Faults) (v n : ℕ) {r : Answer} (e : r ≡ answered fs v) where
   pub same-done : {w : ℕ} → r ≡ Done w → answered fs n ≡ Done n
   unfolding answered
   same-done z = rw append-nil at (first-done fs [] v n e z)
+
+-- check answers 0 on an accepted board, and only there
+pub check-rule : CheckRule
+unfolding accepted checkAnswer boardFaults wordCountFault answered
+check-rule g b = by (wordCountSound g b) (trailerSound g b) (treesSound g b)
+  where
+    by : (w l s : Bool) → (answered ((WordCount, not w) ∷ (Trailer, not l) ∷ (Damaged, not s) ∷ []) 0 ≡ Done 0) ↔ T (w && l && s)
+    by true true true = (λ e. tt, λ t. refl)
+    by true true false = (λ e. absurd (not-refused e refl), λ t. absurd t)
+    by true false s = (λ e. absurd (not-refused e refl), λ t. absurd t)
+    by false l s = (λ e. absurd (not-refused e refl), λ t. absurd t)
 
 -- *5 never occurs*
 pub never-five : (f : Fault) → number f ≢ 5

@@ -1,40 +1,46 @@
--- The power-cut rule, accuracy and the shape of plans, from the fact that the plan of every write and length change is made of good steps.
+-- What is promised of every write and length change, in any order of taking blocks, from the fact that its plan is made of good steps: the power-cut
+-- rule, accuracy, the shape of plans, the blocks taken and given up.
 use mathlib.Core.Path.{_≡_, refl, _∙_}
-use mathlib.Core.Logic.{_≢_, _⊎_, inl, inr}
-use mathlib.Core.List.{List, [], _∷_, _++_}
+use mathlib.Core.Logic.{_≢_, _⊎_, inl, inr, _↔_}
+use mathlib.Core.List.{List, [], _∷_, _++_, map}
 use Prim.Native.Nat.{ℕ, _+_, _-_, _/_, _^_, _≤_, _<_}
 use native.Mathlib.Omega.{arith}
-use lib.ListN.{length}
+use lib.ListN.{length, take}
 use lib.Dec.{T, leb, ltb}
 use borrow.Author.Tests.{leb-false, ltb-false}
 use Rattle.model.specs.declared.Answer.the-variants.{Done, Refused}
 use Rattle.model.specs.declared.Answer.{Answer}
 use Rattle.model.specs.declared.Fault.the-variants.{FileNumber, End, FreeBlocks}
 use Rattle.model.specs.declared.Fault.{Fault}
-use Rattle.model.specs.Lists.{all, filter, concat, member, distinct}
+use Rattle.model.specs.Lists.{tabulate, all, filter, concat, member, distinct, occ}
 use Rattle.model.specs.Layout.{Layout, Fits, files}
-use Rattle.model.specs.Board.{greatest, contents, free, inRange, accepted}
+use Rattle.model.specs.Board.{greatest, contents, liveBlocks, free, inRange, accepted}
 use Rattle.model.specs.Store.{Store, performed, stores, epochs, fenced}
 use Rattle.model.specs.Hidden.{hidden}
 use Rattle.model.specs.Plan.{Step, stepEpochs, planEpochs, Plan, pairs}
 use Rattle.model.specs.Change.{writePlan}
-use Rattle.model.specs.GivenUp.{writeGives, lengthGives}
-use Rattle.model.proofs.Supplied.{supply-lowest}
 use Rattle.model.specs.Answers.{Faults, unlessRefused}
-use Rattle.model.specs.Calls.{boardFaults, fileFaults, Planned, planned, lowest, writeFaults, write, setLength}
-use Rattle.model.specs.Cut.{Change, writing, lengthTo, fileOf, called, planOf, altered, after, Cut, Names, standing, lastArrived, planFor}
-use Rattle.model.specs.Claims.{Shaped, CutSafe, Altered, PlanRule, PowerCutRule, AccuracyRule}
-use Rattle.model.proofs.Counting.{occ, occ-distinct}
+use Rattle.model.specs.Calls.{boardFaults, fileFaults, Planned, planned, lowest, writeFaults, writeFrom, setLength}
+use Rattle.model.specs.Cut.{Change, writing, lengthTo, fileOf, calledFrom, called, planFrom, planFor, givenUp, planOf, altered, after, Cut, Names, standing, lastArrived}
+use Rattle.model.specs.Claims.{Shaped, CutSafe, Altered, PlanRule, FreshRule, PowerCutRule, AccuracyRule}
+use Rattle.model.specs.Orders.{Order, Promised, OrderRule}
+use Rattle.model.proofs.Cases.{is-true}
+use Rattle.model.proofs.Counting.{occ-first, occ-distinct, member-occ}
 use Rattle.model.proofs.Perform.{All, all-append, Plain, stores-fenced}
 use Rattle.model.proofs.Addresses.{addresses, all-left, all-right, all-map, all-holds, all-concat}
+use Rattle.model.proofs.Refusals.{not-refused}
 use Rattle.model.proofs.Epochs.{Full, epochs-fenced, shaped, shaped-none, Passed, Refusing, planned-either}
 use Rattle.model.proofs.Splice.{bytes-small}
+use Rattle.model.proofs.Built.{used, used-first}
 use Rattle.model.proofs.Shown.{count-kept}
 use Rattle.model.proofs.Accepting.{in-range, facts, address-on-board}
+use Rattle.model.proofs.Census.{member-free}
+use Rattle.model.proofs.Supplied.{supply-order, lowest-rule}
 use Rattle.model.proofs.HiddenStores.{hidden-in-range}
 use Rattle.model.proofs.Safety.{none-safe, Settled, settled-one}
 use Rattle.model.proofs.Steps.{committed, length-committed, allCommitted, Reads, SafeSteps, one-step, steps-stores, front, front-last, front-all, performed-steps, steps-rule, steps-accepted}
 use Rattle.model.proofs.GoodSteps.{StepTo, InBlocks, onlyFile, only-file, only-others, step-safe, GoodSteps}
+use Rattle.model.proofs.Taking.{blocksOf}
 use Rattle.model.proofs.Plans.{write-good, length-good, GoodPlan}
 
 -- ---- Good steps are safe, and leave all files reading as wanted
@@ -188,24 +194,19 @@ module _ (g : Layout) (fit : Fits g) (b : List ℕ) (t : T (accepted g b)) (f : 
 
 -- ---- Calls
 
--- the blocks that a change gives up
-unfoldable pub given : (g : Layout) (fresh : ℕ → ℕ) (b : List ℕ) → Change → List ℕ
-given g fresh b (writing f o new) = writeGives g fresh b f o (new .values)
-given g fresh b (lengthTo f n) = lengthGives g b f n
-
 -- the call is done, and its plan alters its file as it asks
-pub record Doing (g : Layout) (b : List ℕ) (c : Change) (p : Planned) : Type 0 where
+pub record Doing (g : Layout) (fresh : ℕ → ℕ) (b : List ℕ) (c : Change) (p : Planned) : Type 0 where
   pub file-in : fileOf c < files g
-  pub good : GoodPlan g b (fileOf c) (lowest g b) (altered c (contents g b (fileOf c))) (given g (lowest g b) b c) (planFor g b c)
-  pub answers : p .answer ≡ Done (length (pairs (planFor g b c)))
-  pub plans : planOf p ≡ pairs (planFor g b c)
+  pub good : GoodPlan g b (fileOf c) fresh (altered c (contents g b (fileOf c))) (givenUp g fresh b c) (planFrom g fresh b c)
+  pub answers : p .answer ≡ Done (length (pairs (planFrom g fresh b c)))
+  pub plans : planOf p ≡ pairs (planFrom g fresh b c)
 
 -- so it is, or refused, where its plan is good once no fault was found
-doing-either : (g : Layout) (b : List ℕ) (c : Change) (faults : Faults) (slice : List ℕ)
-    → (All Passed faults → (fileOf c < files g) × GoodPlan g b (fileOf c) (lowest g b) (altered c (contents g b (fileOf c))) (given g (lowest g b) b c) (planFor g b c))
-    → let p : Planned = planned faults (pairs (planFor g b c)) slice in
-    Doing g b c p ⊎ Refusing p
-doing-either g b c faults slice good = elim (planned-either faults (pairs (planFor g b c)) slice) [
+doing-either : (g : Layout) (fresh : ℕ → ℕ) (b : List ℕ) (c : Change) (faults : Faults) (slice : List ℕ)
+    → (All Passed faults → (fileOf c < files g) × GoodPlan g b (fileOf c) fresh (altered c (contents g b (fileOf c))) (givenUp g fresh b c) (planFrom g fresh b c))
+    → let p : Planned = planned faults (pairs (planFrom g fresh b c)) slice in
+    Doing g fresh b c p ⊎ Refusing p
+doing-either g fresh b c faults slice good = elim (planned-either faults (pairs (planFrom g fresh b c)) slice) [
   | inl d ↦ inl (record { file-in = good (d .passed) .0; good = good (d .passed) .1; answers = d .answers; plans = d .plans })
   | inr r ↦ inr r
 ]
@@ -213,14 +214,6 @@ doing-either g b c faults slice good = elim (planned-either faults (pairs (planF
 file-passed : (g : Layout) (b : List ℕ) (f : ℕ) → All Passed (fileFaults g b f) → f < files g
 unfolding fileFaults All
 file-passed g b f h = leb-false (files g) f (all-right Passed (boardFaults g b) ((FileNumber, leb (files g) f) ∷ []) h .0)
-
-after-done : (c : Change) (before : List ℕ) {a : Answer} {n : ℕ} → a ≡ Done n → after c a before ≡ altered c before
-unfolding after unlessRefused
-after-done c before e = rw e
-
-after-refused : (c : Change) (before : List ℕ) {a : Answer} {f : Fault} → a ≡ Refused f → after c a before ≡ before
-unfolding after unlessRefused
-after-refused c before e = rw e
 
 -- what holds of a write that no fault turns away
 pub write-passed : (g : Layout) (b : List ℕ) (f o : ℕ) (new : List ℕ) (p : Plan) → All Passed (writeFaults g b f o new p)
@@ -231,44 +224,102 @@ write-passed g b f o new p h =
     let rest : All Passed own = all-right Passed (fileFaults g b f) own h in
     (file-passed g b f (all-left Passed (fileFaults g b f) own h), ltb-false (greatest g) (o + length new) (rest .0), ltb-false (length (free g b)) (p .taken) (rest .1 .0))
 
--- every call is done by good steps or refused, and without a plan then
-pub call-either : (g : Layout) → Fits g → (b : List ℕ) → T (accepted g b) → (c : Change) (slice : List ℕ)
-    → let p : Planned = called g b c slice in
-    Doing g b c p ⊎ Refusing p
-unfolding called write setLength fileOf altered planFor given All
-call-either g fit b t (writing f o new) slice =
-    let q : Plan = writePlan g (lowest g b) b f o (new .values) in
-    doing-either g b (writing f o new) (writeFaults g b f o (new .values) q) slice (λ h.
-    let ok = write-passed g b f o (new .values) q h in
-    (ok .0, write-good g fit b t f (ok .0) o (lowest g b) (length (free g b)) (supply-lowest g b) (new .values) (bytes-small (new .values) (new .small)) (ok .1) (ok .2)))
-call-either g fit b t (lengthTo f n) slice =
-    let own : Faults = (End, ltb (greatest g) n) ∷ [] in
-    doing-either g b (lengthTo f n) (fileFaults g b f ++ own) slice (λ h.
-    let file : f < files g = file-passed g b f (all-left Passed (fileFaults g b f) own h) in
-    (file, length-good g fit b t f file n (ltb-false (greatest g) n (all-right Passed (fileFaults g b f) own h .0)) (lowest g b)))
+after-done : (c : Change) (before : List ℕ) {a : Answer} {n : ℕ} → a ≡ Done n → after c a before ≡ altered c before
+unfolding after unlessRefused
+after-done c before e = rw e
+
+after-refused : (c : Change) (before : List ℕ) {a : Answer} {f : Fault} → a ≡ Refused f → after c a before ≡ before
+unfolding after unlessRefused
+after-refused c before e = rw e
+
+module _ (g : Layout) (fit : Fits g) (b : List ℕ) (t : T (accepted g b)) (fresh : ℕ → ℕ) (order : Order g b fresh) where
+  -- every call is done by good steps or refused, and without a plan then
+  call-either : (c : Change) (slice : List ℕ) → let p : Planned = calledFrom g fresh b c slice in Doing g fresh b c p ⊎ Refusing p
+  unfolding calledFrom writeFrom setLength fileOf altered planFrom givenUp All
+  call-either (writing f o new) slice =
+      let q : Plan = writePlan g fresh b f o (new .values) in
+      doing-either g fresh b (writing f o new) (writeFaults g b f o (new .values) q) slice (λ h.
+      let ok = write-passed g b f o (new .values) q h in
+      (ok .0, write-good g fit b t f (ok .0) o fresh (length (free g b)) (supply-order g b fresh order) (new .values) (bytes-small (new .values) (new .small)) (ok .1) (ok .2)))
+  call-either (lengthTo f n) slice =
+      let own : Faults = (End, ltb (greatest g) n) ∷ [] in
+      doing-either g fresh b (lengthTo f n) (fileFaults g b f ++ own) slice (λ h.
+      let file : f < files g = file-passed g b f (all-left Passed (fileFaults g b f) own h) in
+      (file, length-good g fit b t f file n (ltb-false (greatest g) n (all-right Passed (fileFaults g b f) own h .0)) fresh))
+
+  module _ (c : Change) where
+    abbrev p : Plan
+    p = planFrom g fresh b c
+
+    abbrev before : List ℕ
+    before = contents g b (fileOf c)
+
+    -- a call that is done
+    module _ (slice : List ℕ) (d : Doing g fresh b c (calledFrom g fresh b c slice)) where
+      stores-are : stores (pairs p) ≡ concat (planEpochs (p .steps))
+      stores-are = one-stores g fit b t (fileOf c) (d .file-in) (altered c before) p (d .good .steps-good)
+
+      takes-are : (k : ℕ) → T (member k (free g b)) → T (member k (map (λ s. s .at / g .words) (stores (pairs p)))) ↔ T (member k (tabulate (p .taken) fresh))
+      takes-are k m =
+          let takes = d .good .takes k (member-free g b k (is-true (member k (free g b)) m) .2) in
+          let stored-to : List ℕ = blocksOf g (concat (planEpochs (p .steps))) in
+          let taken : List ℕ = tabulate (p .taken) fresh in
+          let counted : occ k taken ≡ used fresh k 0 (p .taken) = used-first fresh k (p .taken) in
+          rw stores-are (λ y. member-occ k taken .1 (rw counted (takes .0 (member-occ k stored-to .0 y))), λ y. member-occ k stored-to .1 (takes .1 (rw (← counted) (member-occ k taken .0 y))))
+
+      lives-are : (q : ℕ) → occ q (liveBlocks g (performed b (stores (pairs p)))) + occ q (givenUp g fresh b c) ≡ occ q (liveBlocks g b) + occ q (tabulate (p .taken) fresh)
+      lives-are q = rw (stores-are, performed-steps b (p .steps), used-first fresh q (p .taken)) (d .good .lives q)
+
+      done-promised : Promised g fresh b c slice
+      done-promised = record {
+        shaped = rw (d .plans) (one-shaped g fit b t (fileOf c) (d .file-in) (altered c before) p (d .good .steps-good));
+        takes = rw (d .plans) (λ some k m. takes-are k m);
+        cuts = rw (after-done c before (d .answers), d .plans) (one-cut g fit b t (fileOf c) (d .file-in) (altered c before) p (d .good .steps-good));
+        alters = rw (after-done c before (d .answers), d .plans) (one-altered g fit b t (fileOf c) (d .file-in) (altered c before) p (d .good .steps-good));
+        lives = rw (d .plans) (λ n e. lives-are);
+      }
+
+    -- and one that is refused
+    refused-promised : (slice : List ℕ) → Refusing (calledFrom g fresh b c slice) → Promised g fresh b c slice
+    unfolding epochs performed stores filter all
+    refused-promised slice r = record {
+      shaped = rw (r .plans) (shaped-none, tt);
+      takes = rw (r .plans) (λ some. absurd (omega arith));
+      cuts = rw (after-refused c before (r .answers), r .plans) (λ x l. none-safe [] refl b g t (fileOf c) x (lastArrived [] x));
+      alters = rw (after-refused c before (r .answers), r .plans) record { board = t; file = refl; others = λ e l n. refl };
+      lives = λ n e. absurd (not-refused e (r .answers));
+    }
+
+pub order-rule : OrderRule
+order-rule g fit b t fresh order c slice = elim (call-either g fit b t fresh order c slice) [
+  | inl d ↦ done-promised g fit b t fresh order c slice d
+  | inr r ↦ refused-promised g fit b t fresh order c slice r
+]
+
+-- ---- With the lowest blocks
+
+lowest-promised : (g : Layout) → Fits g → (b : List ℕ) → T (accepted g b) → (c : Change) (slice : List ℕ) → Promised g (lowest g b) b c slice
+lowest-promised g fit b t c slice = order-rule g fit b t (lowest g b) (lowest-rule g b) c slice
 
 pub power-cut-rule : PowerCutRule
-unfolding epochs
-power-cut-rule g fit b t c slice x =
-    let before : List ℕ = contents g b (fileOf c) in
-    elim (call-either g fit b t c slice) [
-      | inl d ↦ rw (after-done c before (d .answers), d .plans) (one-cut g fit b t (fileOf c) (d .file-in) (altered c before) (planFor g b c) (d .good .steps-good) x)
-      | inr r ↦ rw (after-refused c before (r .answers), r .plans) (λ l. none-safe [] refl b g t (fileOf c) x (lastArrived [] x))
-    ]
+unfolding called
+power-cut-rule g fit b t c slice = lowest-promised g fit b t c slice .cuts
 
 pub accuracy-rule : AccuracyRule
-unfolding performed stores filter
-accuracy-rule g fit b t c slice =
-    let before : List ℕ = contents g b (fileOf c) in
-    elim (call-either g fit b t c slice) [
-      | inl d ↦ rw (after-done c before (d .answers), d .plans) (one-altered g fit b t (fileOf c) (d .file-in) (altered c before) (planFor g b c) (d .good .steps-good))
-      | inr r ↦ rw (after-refused c before (r .answers), r .plans) record { board = t; file = refl; others = λ e l n. refl }
-    ]
+unfolding called
+accuracy-rule g fit b t c slice = lowest-promised g fit b t c slice .alters
 
 pub plan-rule : PlanRule
-unfolding all stores filter
-plan-rule g fit b t c slice =
-    elim (call-either g fit b t c slice) [
-      | inl d ↦ rw (d .plans) (one-shaped g fit b t (fileOf c) (d .file-in) (altered c (contents g b (fileOf c))) (planFor g b c) (d .good .steps-good))
-      | inr r ↦ rw (r .plans) (shaped-none, tt)
-    ]
+unfolding called
+plan-rule g fit b t c slice = lowest-promised g fit b t c slice .shaped
+
+-- its free blocks taken are the first of them
+pub fresh-rule : FreshRule
+unfolding called planFor lowest
+fresh-rule g fit b t c slice some k m =
+    let n : ℕ = planFor g b c .taken in
+    let same : occ k (tabulate n (lowest g b)) ≡ occ k (take n (free g b)) = occ-first (free g b) k n (member-free g b k (is-true (member k (free g b)) m) .0) in
+    let takes = lowest-promised g fit b t c slice .takes some k m in (
+      λ y. member-occ k (take n (free g b)) .1 (rw (← same) (member-occ k (tabulate n (lowest g b)) .0 (takes .0 y))),
+      λ y. takes .1 (member-occ k (tabulate n (lowest g b)) .1 (rw same (member-occ k (take n (free g b)) .0 y))),
+    )

@@ -11,7 +11,7 @@ use lib.Arith.{digits-mod, mod-mul}
 use lib.Dec.{leb, eqb}
 use borrow.Author.Tests.{lt-ltb, le-ltb}
 use Rattle.model.specs.declared.WalkEnd.the-variants.{Hole}
-use Rattle.model.specs.Lists.{tabulate, joined, every, sum, distinct}
+use Rattle.model.specs.Lists.{tabulate, joined, every, sum, distinct, one, occ}
 use Rattle.model.specs.Words.{byteOf}
 use Rattle.model.specs.Layout.{Layout, Fits, files}
 use Rattle.model.specs.Tree.{ending, span, link, walk, shown}
@@ -20,7 +20,7 @@ use Rattle.model.specs.Calls.{wordCountFault, boardFaults, checkAnswer}
 use Rattle.model.specs.Claims.{Shows}
 use Rattle.model.proofs.Cases.{split, every-cong, tabulate-cong, joined-cong}
 use Rattle.model.proofs.Sums.{sum-at}
-use Rattle.model.proofs.Counting.{one, occ, one-same, occ-append, occ-joined, occ-tabulate}
+use Rattle.model.proofs.Counting.{one-same, occ-append, occ-joined, occ-tabulate}
 use Rattle.model.proofs.Spans.{child, span-pos}
 use Rattle.model.proofs.Perform.{address-block}
 use Rattle.model.proofs.Trees.{walk-dead}

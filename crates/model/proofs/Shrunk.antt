@@ -4,9 +4,9 @@ use mathlib.Core.List.{List, []}
 use Prim.Native.Nat.{ℕ, zero, suc, _-_, _*_, _/_, _≤_, _<_}
 use native.Mathlib.Omega.{arith}
 use lib.Dec.{T}
+use Rattle.model.specs.Lists.{occ}
 use Rattle.model.specs.Tree.{span, aligned, link, blocks, sound}
 use Rattle.model.proofs.Sums.{sum-le}
-use Rattle.model.proofs.Counting.{occ}
 use Rattle.model.proofs.Agree.{agree, byteAt-size, agree-byte, agree-blocks, agree-sound, beneath, occ-above, occ-node, sound-child, sound-root, sound-node}
 use Rattle.model.proofs.Splice.{splice-none}
 use Rattle.model.specs.GivenUp.{droppedBlocks}

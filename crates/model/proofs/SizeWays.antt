@@ -9,7 +9,7 @@ use native.Mathlib.Nat.{mod-eq-of-lt, mul-add-mod-self-left, zero-div, zero-mod}
 use lib.ListN.{length, getD, set, length-set, replicate, length-replicate}
 use lib.Dec.{T, eqb}
 use borrow.Author.Tests.{eq-eqb}
-use Rattle.model.specs.Lists.{some, member}
+use Rattle.model.specs.Lists.{some, member, occ}
 use Rattle.model.specs.Layout.{Layout, Fits, files}
 use Rattle.model.specs.Tree.{span, least, blocks, sound}
 use Rattle.model.specs.Board.{rootBlocks, greatest, blockCount, leaf, rootAddress, sizeAddress, root, size, fileBlocks, liveBlocks, free, accepted}
@@ -19,7 +19,7 @@ use Rattle.model.specs.Plan.{step}
 use Rattle.model.specs.Fresh.{Page, splice, need, stored, freshPointer, build}
 use Rattle.model.specs.InPlace.{atBlock, walkLive, tailNeed, tailPages, inPlace}
 use Rattle.model.proofs.Cases.{decide, or-right, some-at}
-use Rattle.model.proofs.Counting.{occ, one-same, one-other, one-most}
+use Rattle.model.proofs.Counting.{one-same, one-other, one-most}
 use Rattle.model.proofs.Spans.{least-within, least-reaches}
 use Rattle.model.proofs.Perform.{All, all-append, address-block}
 use Rattle.model.proofs.Addresses.{addresses, addresses-away, Stands, all-map, all-left, all-right, occ-addresses-append, stored-once, stands-set, held-of-all}

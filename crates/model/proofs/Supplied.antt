@@ -1,11 +1,12 @@
--- Fresh blocks: what is asked of them, and that the board's free blocks meet it.
+-- Fresh blocks: what is asked of them, and that every order of the board's free blocks meets it.
 use mathlib.Core.Path.{_≡_, sym, ap, _∙_, subst}
 use mathlib.Core.Logic.{_≢_, inl, inr}
 use mathlib.Core.List.{List}
 use Prim.Native.Nat.{ℕ, _+_, _-_, _*_, _/_, _≤_, _<_}
 use native.Mathlib.Omega.{arith}
-use lib.ListN.{length}
+use lib.ListN.{length, getD}
 use lib.Dec.{T}
+use Rattle.model.specs.Lists.{member, occ}
 use Rattle.model.specs.Layout.{Layout, Fits}
 use Rattle.model.specs.Tree.{cell}
 use Rattle.model.specs.Board.{blockCount, liveBlocks, free}
@@ -13,12 +14,12 @@ use Rattle.model.specs.Store.{performed}
 use Rattle.model.specs.Hidden.{hidden}
 use Rattle.model.specs.Fresh.{Page, stored}
 use Rattle.model.specs.Calls.{lowest}
-use Rattle.model.proofs.Cases.{split}
-use Rattle.model.proofs.Counting.{occ}
+use Rattle.model.specs.Orders.{Order, LowestRule}
+use Rattle.model.proofs.Cases.{split, is-true}
 use Rattle.model.proofs.Perform.{All, performed-away, address-block, stored-blocks}
 use Rattle.model.proofs.Addresses.{all-map, addresses, used-none, used-once, stored-once}
 use Rattle.model.proofs.Built.{used}
-use Rattle.model.proofs.Census.{FreeBlock, free-at, free-rises, free-member}
+use Rattle.model.proofs.Census.{FreeBlock, free-at, free-rises, member-free, free-member}
 
 -- the blocks fresh i with i < lim differ and lie in 1 to B − 2; those with c ≤ i are not live
 pub record Supply (g : Layout) (b : List ℕ) (fresh : ℕ → ℕ) (c lim : ℕ) : Type 0 where
@@ -27,14 +28,23 @@ pub record Supply (g : Layout) (b : List ℕ) (fresh : ℕ → ℕ) (c lim : ℕ
   pub apart : (i j : ℕ) → i < j → j < lim → fresh i ≢ fresh j
   pub spare : (i : ℕ) → c ≤ i → i < lim → occ (fresh i) (liveBlocks g b) ≡ 0
 
--- *Fresh blocks are taken lowest number first*
-pub supply-lowest : (g : Layout) (b : List ℕ) → Supply g b (lowest g b) 0 (length (free g b))
+-- an order of taking free blocks is one
+pub supply-order : (g : Layout) (b : List ℕ) (fresh : ℕ → ℕ) → Order g b fresh → Supply g b fresh 0 (length (free g b))
+supply-order g b fresh o = record {
+  nonzero = λ i l. lies i l .0;
+  below = λ i l. lies i l .1;
+  apart = o .apart;
+  spare = λ i u l. lies i l .2;
+}
+  where
+    lies : (i : ℕ) → i < length (free g b) → FreeBlock g b (fresh i)
+    lies i l = member-free g b (fresh i) (is-true (member (fresh i) (free g b)) (o .among i l))
+
+pub lowest-rule : LowestRule
 unfolding lowest
-supply-lowest g b = record {
-  nonzero = λ i l. free-at g b i l .0;
-  below = λ i l. free-at g b i l .1;
+lowest-rule g b = record {
+  among = λ i l. rw (free-member g b (getD (free g b) i 0) (free-at g b i l)) tt;
   apart = λ i j u v e. omega (arith, free-rises g b i j u v);
-  spare = λ i u l. free-at g b i l .2;
 }
 
 module _ (g : Layout) (b : List ℕ) (fresh : ℕ → ℕ) (c lim : ℕ) (ok : Supply g b fresh c lim) where

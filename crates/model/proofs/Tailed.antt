@@ -10,14 +10,13 @@ use lib.ListN.{length, getD, replicate, length-replicate, getD-replicate, List·
 use lib.Arith.{digits-div, digits-mod}
 use lib.Dec.{T}
 use Rattle.model.specs.declared.WalkEnd.the-variants.{Hole}
-use Rattle.model.specs.Lists.{sum, choose}
+use Rattle.model.specs.Lists.{sum, choose, occ}
 use Rattle.model.specs.Tree.{ending, span, aligned, cell, link}
 use Rattle.model.specs.Store.{store}
 use Rattle.model.specs.Fresh.{Page, splice, part, partLength, need, dataPage, freshPointer, build}
 use Rattle.model.specs.InPlace.{atBlock, tailNeed, tailBefore, walkLive, tailPages, tailWords, hooked, inPlace}
 use Rattle.model.proofs.Cases.{split, length-joined}
 use Rattle.model.proofs.Sums.{sum-cong, sum-next, sum-zero}
-use Rattle.model.proofs.Counting.{occ}
 use Rattle.model.proofs.Spans.{span-pos}
 use Rattle.model.proofs.Perform.{All}
 use Rattle.model.proofs.Addresses.{joined-at, Stands}

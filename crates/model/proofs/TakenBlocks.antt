@@ -1,65 +1,33 @@
 -- Fresh blocks. Of the free blocks a plan stores to the lowest, as many as it takes, and to no other; how many that is; and after it the live
 -- and the free blocks still make B.
-use mathlib.Core.Path.{_≡_, refl, _∙_, sym, ap}
+use mathlib.Core.Path.{_≡_, _∙_, ap}
 use mathlib.Core.Logic.{inl, inr}
-use mathlib.Core.List.{List, [], _∷_}
+use mathlib.Core.List.{List}
 use Prim.Native.Nat.{ℕ, zero, suc, _+_, _-_, _*_, _/_, _%_, _≤_, _<_}
 use native.Mathlib.Omega.{arith}
-use native.Mathlib.Nat.{zero-add, div-add-mod'}
-use lib.ListN.{length, getD, take, List·getD-eq-default}
-use lib.Seq.{take-all, take-suc}
+use native.Mathlib.Nat.{div-add-mod'}
+use lib.ListN.{length}
 use lib.Dec.{T}
 use Rattle.model.specs.declared.Inode.{Inode}
-use Rattle.model.specs.Lists.{concat, member, sum}
 use Rattle.model.specs.Layout.{Layout, Fits}
 use Rattle.model.specs.Tree.{span, least, cell}
-use Rattle.model.specs.Board.{contents, free, accepted, liveBlocks, blockCount, root, size}
+use Rattle.model.specs.Board.{free, accepted, liveBlocks, blockCount, root, size}
 use Rattle.model.specs.Store.{Store, performed, stores}
-use Rattle.model.specs.Plan.{planEpochs, Plan, pairs, plan}
+use Rattle.model.specs.Plan.{plan}
 use Rattle.model.specs.Fresh.{freshNeed, need}
 use Rattle.model.specs.InPlace.{tailNeed}
 use Rattle.model.specs.Change.{growthTo, emptyTailTo, emptyTail, tail, descend, shadowInside, shadowWithLength}
-use Rattle.model.specs.Calls.{lowest}
-use Rattle.model.specs.Cut.{Change, fileOf, called, planOf, altered, planFor}
-use Rattle.model.specs.Claims.{FreshRule}
-use Rattle.model.proofs.Cases.{split, is-true}
-use Rattle.model.proofs.Counting.{occ, one-other, occ-append, member-occ}
+use Rattle.model.specs.Cut.{Change, called, planOf}
+use Rattle.model.proofs.Cases.{split}
 use Rattle.model.proofs.Perform.{length-performed}
-use Rattle.model.proofs.Built.{used, length-build, length-build-null}
+use Rattle.model.proofs.Built.{length-build, length-build-null}
 use Rattle.model.proofs.Paths.{fresh-quiet}
 use Rattle.model.proofs.Tailed.{length-tail}
 use Rattle.model.proofs.Descent.{descend-on, descend-stop}
 use Rattle.model.proofs.Grown.{length-levels}
 use Rattle.model.proofs.Shown.{count-kept}
-use Rattle.model.proofs.Census.{census, member-free}
-use Rattle.model.proofs.Taking.{blocksOf}
-use Rattle.model.proofs.Rules.{call-either, one-stores, accuracy-rule}
-
--- the first n of a list, by its elements
-pub first-used : (l : List ℕ) (k n : ℕ) → 0 < k → used (λ i. getD l i 0) k 0 n ≡ occ k (take n l)
-unfolding used sum occ
-first-used l k zero pos = refl
-first-used l k (suc n) pos = elim (split (length l) n) [
-  | inl past ↦
-      let all-of : take (suc n) l ≡ take n l = take-all (suc n) l (omega arith) ∙ sym (take-all n l past) in
-      rw (all-of, zero-add n, List·getD-eq-default l 0 past) (omega (arith, first-used l k n pos, one-other k 0 (omega arith)))
-  | inr l′ ↦ rw (take-suc l n 0 l′, zero-add n) (omega (arith, first-used l k n pos, occ-append k (take n l) (getD l n 0 ∷ [])))
-]
-
-pub fresh-rule : FreshRule
-unfolding pairs lowest
-fresh-rule g fit b t c slice some k m = elim (call-either g fit b t c slice) [
-  | inl d ↦
-      let p : Plan = planFor g b c in
-      let free-k = member-free g b k (is-true (member k (free g b)) m) in
-      let is : stores (planOf (called g b c slice)) ≡ concat (planEpochs (p .steps)) = ap stores (d .plans) ∙ one-stores g fit b t (fileOf c) (d .file-in) (altered c (contents g b (fileOf c))) p (d .good .steps-good) in
-      let takes = d .good .takes k (free-k .2) in
-      let stored-to : List ℕ = blocksOf g (concat (planEpochs (p .steps))) in
-      let first : List ℕ = take (p .taken) (free g b) in
-      let counted : used (lowest g b) k 0 (p .taken) ≡ occ k first = first-used (free g b) k (p .taken) (free-k .0) in
-      rw is (λ y. member-occ k first .1 (rw (← counted) (takes .0 (member-occ k stored-to .0 y))), λ y. member-occ k stored-to .1 (takes .1 (rw counted (member-occ k first .0 y))))
-  | inr r ↦ absurd (omega (arith, rw (r .plans) at some))
-]
+use Rattle.model.proofs.Census.{census}
+use Rattle.model.proofs.Rules.{accuracy-rule}
 
 -- after a plan the free blocks are those of 1 to B − 2 that are not live, as before
 pub census-after : (g : Layout) → Fits g → (b : List ℕ) → T (accepted g b) → (c : Change) (slice : List ℕ)

@@ -5,7 +5,7 @@ use Prim.Native.Nat.{ℕ, zero, suc, _+_, _-_, _*_, _/_, _%_, _≤_, _<_}
 use native.Mathlib.Omega.{arith}
 use native.Mathlib.Nat.{zero-mul, suc-mul, mul-zero, mul-add}
 use lib.ListN.{length}
-use Rattle.model.specs.Lists.{tabulate, sum, concat}
+use Rattle.model.specs.Lists.{tabulate, sum, concat, one, occ}
 use Rattle.model.specs.Layout.{Layout, files}
 use Rattle.model.specs.Tree.{blocks}
 use Rattle.model.specs.Board.{liveBlocks, rootBlocks, rootAddress, root, size, fileBlocks}
@@ -13,7 +13,7 @@ use Rattle.model.specs.Store.{Store, store}
 use Rattle.model.specs.Plan.{Step, planEpochs}
 use Rattle.model.specs.Fresh.{Page, stored}
 use Rattle.model.specs.InPlace.{inPlace}
-use Rattle.model.proofs.Counting.{one, occ, one-other, occ-append}
+use Rattle.model.proofs.Counting.{one-other, occ-append}
 use Rattle.model.proofs.Perform.{All, address-block, pageStore}
 use Rattle.model.proofs.Addresses.{used-first, all-map}
 use Rattle.model.proofs.Built.{used}

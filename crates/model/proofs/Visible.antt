@@ -7,12 +7,12 @@ use Prim.Native.Nat.{ℕ, _+_, _-_, _*_, _/_, _%_, _<_}
 use native.Mathlib.Omega.{arith}
 use native.Mathlib.Nat.{mod-lt, div-add-mod', mul-comm}
 use lib.ListN.{length, getD, set, length-set}
+use Rattle.model.specs.Lists.{occ}
 use Rattle.model.specs.Layout.{Layout, Fits, files}
 use Rattle.model.specs.Tree.{cell}
 use Rattle.model.specs.Board.{rootBlocks, blockCount, trailer, inodeBlock, inodePointer, leaf, rootAddress, sizeAddress, root, size, fileBlocks, liveBlocks}
 use Rattle.model.specs.Store.{Store, performed}
 use Rattle.model.proofs.Cases.{split}
-use Rattle.model.proofs.Counting.{occ}
 use Rattle.model.proofs.Perform.{All, address-block}
 use Rattle.model.proofs.Agree.{agree, agree-refl, agree-trans, agree-none, frame, dark-word, dark-again}
 use Rattle.model.proofs.Shown.{Same, same-address, inode-live, leaf-live, root-block, size-block, words-pos, same-count, same-inode, file-live, leaf-of}

@@ -10,7 +10,7 @@ use lib.Dec.{T, leb, eqb}
 use borrow.Author.Tests.{le-leb, lt-leb, eq-eqb, ne-eqb, eqb-true}
 use Rattle.model.specs.declared.WalkEnd.the-variants.{Block}
 use Rattle.model.specs.declared.Inode.{Inode}
-use Rattle.model.specs.Lists.{tabulate, sum}
+use Rattle.model.specs.Lists.{tabulate, sum, occ}
 use Rattle.model.specs.Layout.{Layout, Fits, files}
 use Rattle.model.specs.Tree.{live, span, least}
 use Rattle.model.specs.Board.{greatest, leaf, rootAddress, sizeAddress, root, size, inodeOf, walkTo, contents, liveBlocks, accepted}
@@ -22,7 +22,6 @@ use Rattle.model.specs.InPlace.{atBlock, walkLive, tailPages, inPlace}
 use Rattle.model.specs.Change.{singleBlock, singleWord, isTail, emptyTailTo, emptyTail, tail, shadowInside, shadowWithLength, chosenWay}
 use Rattle.model.specs.Cut.{overwritten}
 use Rattle.model.proofs.Cases.{split, decide, true-left, true-right}
-use Rattle.model.proofs.Counting.{occ}
 use Rattle.model.proofs.Perform.{All, length-tabulate}
 use Rattle.model.proofs.Altering.{spliced-write, spliced-cut, spliced-zeros}
 use Rattle.model.proofs.Splice.{Small}

@@ -65,18 +65,21 @@ planned faults ss slice =
     record { answer = a; slice = unlessRefused a (laid slice 0 ss) slice }
 
 module _ (g : Layout) (b : List ℕ) where
-  -- *Fresh blocks are taken lowest number first*
-  unfoldable pub lowest : ℕ → ℕ
-  lowest i = getD (free g b) i 0
-
   -- *Write.* *6: e above 32,768. 7: fewer free blocks than the plan's fresh ones, growth included.* *5 never occurs*
   unfoldable pub writeFaults : ℕ → ℕ → List ℕ → Plan → Faults
   writeFaults f o new p = fileFaults g b f
       ++ ((End, ltb (greatest g) (o + length new)) ∷ (FreeBlocks, ltb (length (free g b)) (p .taken)) ∷ [])
 
-  -- the plan goes to the lent slice
+  -- with blocks taken in the order `fresh`; the plan goes to the lent slice
+  unfoldable pub writeFrom : (ℕ → ℕ) → ℕ → ℕ → List ℕ → List ℕ → Planned
+  writeFrom fresh f o new slice = let p : Plan = writePlan g fresh b f o new in planned (writeFaults f o new p) (pairs p) slice
+
+  -- *Fresh blocks are taken lowest number first*
+  unfoldable pub lowest : ℕ → ℕ
+  lowest i = getD (free g b) i 0
+
   unfoldable pub write : ℕ → ℕ → List ℕ → List ℕ → Planned
-  write f o new slice = let p : Plan = writePlan g lowest b f o new in planned (writeFaults f o new p) (pairs p) slice
+  write f o new slice = writeFrom lowest f o new slice
 
   -- *Length change.* *6: n above 32,768*
   unfoldable pub setLength : ℕ → ℕ → List ℕ → Planned

@@ -5,10 +5,10 @@ use mathlib.Core.Bool.{Bool, false, _&&_}
 use mathlib.Core.List.{List, [], _∷_, map}
 use Prim.Native.Nat.{ℕ, zero, suc, _+_, _-_, _*_, _/_, _%_, _≤_, _<_}
 use lib.ListN.{length, getD, take, drop}
-use lib.Dec.{T, leb}
-use Rattle.model.specs.declared.Answer.the-variants.{Refused}
+use lib.Dec.{T, leb, eqb}
+use Rattle.model.specs.declared.Answer.the-variants.{Done, Refused}
 use Rattle.model.specs.declared.Fault.the-variants.{Trailer}
-use Rattle.model.specs.Lists.{sum, all, member, distinct}
+use Rattle.model.specs.Lists.{sum, all, filter, member, distinct}
 use Rattle.model.specs.Words.{byteOf, Bytes}
 use Rattle.model.specs.Layout.{Layout, Fits, house, files}
 use Rattle.model.specs.Tree.{span, cell, link}
@@ -23,17 +23,24 @@ use Rattle.model.specs.Lister.{heldCount}
 use Rattle.model.specs.Cut.{Change, writing, fileOf, called, planFor, planOf, after, Cut, chosen, Names, standing, lastArrived}
 use Rattle.model.specs.Safe.{left, SafePlan, decided}
 
+-- ---- Check
+
+-- *Check* answers 0 exactly where the board is accepted
+abbrev pub CheckRule : Type 0
+CheckRule = (g : Layout) (b : List ℕ) → (checkAnswer g b ≡ Done 0) ↔ T (accepted g b)
+
 -- ---- Plans
 
 -- pair i is a barrier
 unfoldable pub barrierAt : List Store → ℕ → Bool
 barrierAt ss i = isBarrier (getD ss i (store 0 0))
 
--- *none stands first or last*, nor two in a row; *within an epoch no address occurs twice*
+-- *none stands first or last*, nor two in a row; *value 0*; *within an epoch no address occurs twice*
 pub record Shaped (ss : List Store) : Type 0 where
   pub first : barrierAt ss 0 ≡ false
   pub last : barrierAt ss (length ss - 1) ≡ false
   pub apart : (i : ℕ) → (barrierAt ss i && barrierAt ss (suc i)) ≡ false
+  pub zeros : T (all (λ s. eqb (s .value) 0) (filter isBarrier ss))
   pub once : T (all (λ e. distinct (map (λ s. s .at) e)) (epochs ss))
 
 -- every plan of a write or a length change on an accepted board is so, and stores to blocks 1 to B − 2 only

@@ -12,8 +12,9 @@ use Rattle.model.specs.Layout.{Layout}
 use Rattle.model.specs.Store.{Store, performed, paired, epochs}
 use Rattle.model.specs.Plan.{Plan}
 use Rattle.model.specs.Change.{writePlan, lengthPlan}
+use Rattle.model.specs.GivenUp.{lengthGives, writeGives}
 use Rattle.model.specs.Answers.{unlessRefused, counted}
-use Rattle.model.specs.Calls.{Planned, lowest, write, setLength}
+use Rattle.model.specs.Calls.{Planned, lowest, writeFrom, setLength}
 
 -- *both calls, all arguments*: bytes written to a file at an offset; a file's length set
 pub data Change : Type 0 where
@@ -25,15 +26,25 @@ unfoldable pub fileOf : Change → ℕ
 fileOf (writing f o new) = f
 fileOf (lengthTo f n) = f
 
--- what the call answers and leaves in the plan slice
-unfoldable pub called : Layout → List ℕ → Change → List ℕ → Planned
-called g b (writing f o new) slice = write g b f o (new .values) slice
-called g b (lengthTo f n) slice = setLength g b f n slice
+-- what the call answers and leaves in the plan slice, with blocks taken in the order `fresh`, and as it is
+unfoldable pub calledFrom : (g : Layout) (fresh : ℕ → ℕ) (b : List ℕ) → Change → List ℕ → Planned
+calledFrom g fresh b (writing f o new) slice = writeFrom g b fresh f o (new .values) slice
+calledFrom g fresh b (lengthTo f n) slice = setLength g b f n slice
 
--- the plan that the call lays out where it is not refused
+unfoldable pub called : Layout → List ℕ → Change → List ℕ → Planned
+called g b c slice = calledFrom g (lowest g b) b c slice
+
+-- the plan that the call lays out where it is not refused, and the blocks that it gives up then
+unfoldable pub planFrom : (g : Layout) (fresh : ℕ → ℕ) (b : List ℕ) → Change → Plan
+planFrom g fresh b (writing f o new) = writePlan g fresh b f o (new .values)
+planFrom g fresh b (lengthTo f n) = lengthPlan g b f n
+
 unfoldable pub planFor : Layout → List ℕ → Change → Plan
-planFor g b (writing f o new) = writePlan g (lowest g b) b f o (new .values)
-planFor g b (lengthTo f n) = lengthPlan g b f n
+planFor g b c = planFrom g (lowest g b) b c
+
+unfoldable pub givenUp : (g : Layout) (fresh : ℕ → ℕ) (b : List ℕ) → Change → List ℕ
+givenUp g fresh b (writing f o new) = writeGives g fresh b f o (new .values)
+givenUp g fresh b (lengthTo f n) = lengthGives g b f n
 
 -- *The plan is as many pairs as the answer counts.*
 unfoldable pub planOf : Planned → List Store

@@ -1,5 +1,5 @@
 -- Lists and counts that the definitions are written with. None is a term of the document.
-use mathlib.Core.Bool.{Bool, true, false, not, _&&_, _||_}
+use mathlib.Core.Bool.{Bool, true, false, not, cond, _&&_, _||_}
 use mathlib.Core.List.{List, [], _∷_, _++_}
 use Prim.Native.Nat.{ℕ, zero, suc, _+_}
 use lib.Dec.{eqb}
@@ -63,6 +63,15 @@ member x (y ∷ ys) = eqb x y || member x ys
 unfoldable pub distinct : List ℕ → Bool
 distinct [] = true
 distinct (x ∷ xs) = not (member x xs) && distinct xs
+
+-- 1 where the two are equal, else 0
+unfoldable pub one : ℕ → ℕ → ℕ
+one q x = cond (eqb q x) 1 0
+
+-- how often q is in the list
+unfoldable pub occ : ℕ → List ℕ → ℕ
+occ q [] = 0
+occ q (x ∷ xs) = one q x + occ q xs
 
 -- a where n is 0, else z
 unfoldable pub choose : {A : Type 0} → ℕ → A → A → A

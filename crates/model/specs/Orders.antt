@@ -1,0 +1,54 @@
+-- What Claims promises of the calls that change a file, for any order of taking blocks, document 01's among them; and which blocks are live afterwards.
+use mathlib.Core.Path.{_≡_}
+use mathlib.Core.Logic.{_≢_, _↔_}
+use mathlib.Core.List.{List, map}
+use Prim.Native.Nat.{ℕ, _+_, _/_, _<_}
+use lib.ListN.{length}
+use lib.Dec.{T}
+use Rattle.model.specs.declared.Answer.the-variants.{Done}
+use Rattle.model.specs.Lists.{tabulate, all, member, occ}
+use Rattle.model.specs.Layout.{Layout, Fits}
+use Rattle.model.specs.Board.{contents, liveBlocks, free, inRange, accepted}
+use Rattle.model.specs.Store.{Store, performed, stores}
+use Rattle.model.specs.Calls.{Planned, lowest}
+use Rattle.model.specs.Cut.{Change, fileOf, calledFrom, planFrom, givenUp, planOf, after, Cut, Names, standing, lastArrived}
+use Rattle.model.specs.Claims.{Shaped, CutSafe, Altered}
+
+-- fresh 0, fresh 1, .., as many as there are free blocks, are free blocks, and no two are the same
+pub record Order (g : Layout) (b : List ℕ) (fresh : ℕ → ℕ) : Type 0 where
+  pub among : (i : ℕ) → i < length (free g b) → T (member (fresh i) (free g b))
+  pub apart : (i j : ℕ) → i < j → j < length (free g b) → fresh i ≢ fresh j
+
+-- *lowest number first* is one
+abbrev pub LowestRule : Type 0
+LowestRule = (g : Layout) (b : List ℕ) → Order g b (lowest g b)
+
+module _ (g : Layout) (fresh : ℕ → ℕ) (b : List ℕ) (c : Change) (slice : List ℕ) where
+  abbrev call : Planned
+  call = calledFrom g fresh b c slice
+
+  abbrev ss : List Store
+  ss = planOf call
+
+  -- what its file reads as after it
+  abbrev wanted : List ℕ
+  wanted = after c (call .answer) (contents g b (fileOf c))
+
+  -- the blocks that it takes
+  abbrev taken : List ℕ
+  taken = tabulate (planFrom g fresh b c .taken) fresh
+
+  -- What is promised of a call with blocks taken in the order `fresh`: PlanRule, FreshRule, PowerCutRule and AccuracyRule of Claims
+  pub record Promised : Type 0 where
+    pub shaped : Shaped ss × T (all (λ s. inRange g b (s .at / g .words)) (stores ss))
+    pub takes : 0 < length ss → (k : ℕ) → T (member k (free g b)) → T (member k (map (λ s. s .at / g .words) (stores ss))) ↔ T (member k taken)
+    pub cuts : (x : Cut) → Names ss x → CutSafe g b (standing ss x b) (fileOf c) wanted ss (lastArrived ss x)
+    pub alters : Altered g b (performed b (stores ss)) (fileOf c) wanted
+    -- and, where it is done, that the live blocks after it and those given up are the live blocks before it and those taken, each as often as it occurs:
+    -- the live blocks are then those before, less those given up, and those taken and kept
+    pub lives : (n : ℕ) → call .answer ≡ Done n
+        → (q : ℕ) → occ q (liveBlocks g (performed b (stores ss))) + occ q (givenUp g fresh b c) ≡ occ q (liveBlocks g b) + occ q taken
+
+-- for every accepted board, every order, both calls and all arguments
+abbrev pub OrderRule : Type 0
+OrderRule = (g : Layout) → Fits g → (b : List ℕ) → T (accepted g b) → (fresh : ℕ → ℕ) → Order g b fresh → (c : Change) (slice : List ℕ) → Promised g fresh b c slice
