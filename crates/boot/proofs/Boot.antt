@@ -19,8 +19,8 @@ use Rattle.model.specs.Fresh.{stored}
 use Rattle.model.specs.Change.{writePlan, lengthPlan}
 use Rattle.model.specs.Format.{formatPages, trailerAddress, trailerStores, formatPlan}
 use Rattle.model.specs.Answers.{Faults, answered, unlessRefused}
-use Rattle.model.specs.Calls.{wordCountFault, boardFaults, fileFaults, checkAnswer, freeCountAnswer, sizeAnswer, readCount, readAnswer, readBuffer, planned, lowest, writeFaults, write, setLength, format, performFaults, performAnswer}
-use Rattle.model.specs.Cut.{Change, writing, lengthTo, called}
+use Rattle.model.specs.Calls.{wordCountFault, boardFaults, fileFaults, checkAnswer, freeCountAnswer, sizeAnswer, readCount, readAnswer, readBuffer, planned, lowest, writeFaults, writeFrom, write, setLength, format, performFaults, performAnswer}
+use Rattle.model.specs.Cut.{Change, writing, lengthTo, calledFrom, called}
 use Rattle.model.specs.Claims.{SameCalls, BootRule}
 use Rattle.model.proofs.Cases.{true-left, every-cong, joined-cong, every-of}
 use Rattle.model.proofs.Shown.{words-pos, leaf-of, words-kept}
@@ -194,7 +194,7 @@ module _ (g : Layout) (fit : Fits g) {b b′ : List ℕ} (same : Alike (g .words
         write-plan-alike g (words-pos g fit) same (lowest g b) f (found p) o new ∙ (λ t. writePlan g (λ i. getD (free-alike (p .0) t) i 0) b′ f o new)
 
     write-alike : (o : ℕ) (new slice : List ℕ) → write g b f o new slice ≡ write g b′ f o new slice
-    unfolding write writeFaults
+    unfolding write writeFrom writeFaults
     write-alike o new slice =
         let faults : ℕ → Plan → Faults = λ room p. (End, ltb (greatest g) (o + length new)) ∷ (FreeBlocks, ltb room (p .taken)) ∷ [] in
         let p : Plan = writePlan g (lowest g b) b f o new in
@@ -210,7 +210,7 @@ module _ (g : Layout) (fit : Fits g) {b b′ : List ℕ} (same : Alike (g .words
         (pairs (lengthPlan g b f n)) (pairs (lengthPlan g b′ f n)) slice (λ q. refl) (λ q t. pairs (length-plan-alike g same (found q) n t))
 
   changes-alike : (c : Change) (slice : List ℕ) → called g b c slice ≡ called g b′ c slice
-  unfolding called
+  unfolding called calledFrom write
   changes-alike (writing f o new) slice = write-alike f o (new .values) slice
   changes-alike (lengthTo f n) slice = set-length-alike f n slice
 

@@ -1,12 +1,11 @@
 -- The ways out of the calls that change a file.
 use mathlib.Core.Path.{_≡_, refl, sym, ap, _∙_}
 use mathlib.Core.Logic.{inl, inr}
-use mathlib.Core.Bool.{Bool, _&&_}
 use mathlib.Core.List.{List, [], _∷_, _++_}
 use Prim.Native.Nat.{ℕ, _+_, _/_, _≤_, _<_}
 use native.Mathlib.Omega.{arith}
 use lib.ListN.{length}
-use lib.Dec.{T, ltb}
+use lib.Dec.{ltb}
 use borrow.Author.Tests.{lt-ltb, le-ltb}
 use Rattle.model.specs.declared.Answer.{Answer}
 use Rattle.model.specs.declared.Answer.the-variants.{Done, Refused}
@@ -14,20 +13,19 @@ use Rattle.model.specs.declared.Fault.{Fault}
 use Rattle.model.specs.declared.Fault.the-variants.{End, FreeBlocks, PlanLength}
 use Rattle.model.specs.Layout.{house, files}
 use Rattle.model.specs.Tree.{span}
-use Rattle.model.specs.Board.{greatest, size, wordCountSound, trailerSound, treesSound, accepted, free}
+use Rattle.model.specs.Board.{greatest, size, free}
 use Rattle.model.specs.Store.{Store, fenced, laid}
 use Rattle.model.specs.Plan.{Plan, plan, pairs, planEpochs}
 use Rattle.model.specs.Change.{writePlan, lengthPlan}
 use Rattle.model.specs.Answers.{Faults, answered}
-use Rattle.model.specs.Calls.{Planned, wordCountFault, boardFaults, fileFaults, checkAnswer, planned, lowest, writeFaults, write, setLength}
-use Rattle.model.proofs.Cases.{split, is-true, and-left, and-right}
-use Rattle.model.proofs.Refusals.{not-refused, first-refused, first-done}
+use Rattle.model.specs.Calls.{Planned, fileFaults, checkAnswer, planned, lowest, writeFaults, writeFrom, write, setLength}
+use Rattle.model.proofs.Cases.{split}
+use Rattle.model.proofs.Refusals.{not-refused, first-refused, first-done, checked, check-accepts}
 use Rattle.model.proofs.Accepting.{facts}
 use Rattle.model.proofs.Formatted.{house-fits}
 use Rattle.plans.specs.Laying.{Laid, PlanResult}
 use Rattle.plans.proofs.Laying.{laid-none}
 use Rattle.plans.proofs.Refusing.{turned, too-short, long-enough}
-use Rattle.surveying.proofs.Surveying.{sound}
 use Rattle.reading.proofs.Answering.{file-refused, file-none, file-there}
 use Rattle.building.specs.Taking.{taking}
 use Rattle.growing.specs.declared.Count.{Count}
@@ -45,26 +43,12 @@ unlaid none {slice} e k = rw (no-part none slice e) k
 
 -- ---- Accepted boards and their files
 
--- check answers 0 on an accepted board
-checked : (b : List ℕ) → T (accepted house b) → checkAnswer house b ≡ Done 0
-unfolding accepted checkAnswer boardFaults wordCountFault answered
-checked b t =
-    let w : Bool = wordCountSound house b in
-    let l : Bool = trailerSound house b in
-    let s : Bool = treesSound house b in
-    rw (is-true w (and-left w l (and-left (w && l) s t)), is-true l (and-right w l (and-left (w && l) s t)), is-true s (and-right (w && l) s t))
-
--- and only there
-accepts : (b : List ℕ) (v : ℕ) → checkAnswer house b ≡ Done v → T (accepted house b)
-unfolding accepted
-accepts b v e = let k = sound b v e in rw (k .words, k .trailer, k .trees) tt
-
 pub there : {b : List ℕ} {f v : ℕ} {r : Answer} → r ≡ checkAnswer house b → r ≡ Done v → f ≤ 31 → File b f
-there {b} {f} {v} e z l = record { board = accepts b v (sym e ∙ z); file = omega arith }
+there {b} {f} {v} e z l = record { board = check-accepts house b (sym e ∙ z); file = omega arith }
 
 -- none of refusals 1 to 4
 file-done : {b : List ℕ} {f : ℕ} → File b f → Done 0 ≡ answered (fileFaults house b f) 0
-file-done {b} {f} k = file-there b f refl (checked b (k .board)) (omega (arith, k .file))
+file-done {b} {f} k = file-there b f refl (checked house b (k .board)) (omega (arith, k .file))
 
 pub done-file : {b : List ℕ} {f v : ℕ} {r : Answer} → r ≡ answered (fileFaults house b f) 0 → r ≡ Done v → File b f
 done-file {b} {f} {v} {r} e z = by (checkAnswer house b) refl
@@ -104,7 +88,7 @@ write-done b f o new k end room = sym (first-done (fileFaults house b f) (ownFau
 module _ (b : List ℕ) (f o : ℕ) (new slice : List ℕ) where
   -- the definition's answer and slice
   write-gives : {r : Answer} {slice′ : List ℕ} → PlanResult (planned (allFaults b f o new) (pairs (lowestPlan b f o new)) slice) r slice′ → PlanResult (write house b f o new slice) r slice′
-  unfolding write
+  unfolding write writeFrom
   write-gives k = record { answer = k .answer; plan = k .plan }
 
   -- a refusal up to 7

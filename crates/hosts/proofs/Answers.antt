@@ -24,7 +24,7 @@ use Rattle.model.specs.Plan.{Plan, pairs}
 use Rattle.model.specs.Change.{writePlan, lengthPlan}
 use Rattle.model.specs.Format.{formatPlan}
 use Rattle.model.specs.Answers.{Faults, answered, counted, signed}
-use Rattle.model.specs.Calls.{wordCountFault, fileFaults, Planned, planned, lowest, writeFaults, write, setLength, format, performFaults, performAnswer}
+use Rattle.model.specs.Calls.{wordCountFault, fileFaults, Planned, planned, lowest, writeFaults, writeFrom, write, setLength, format, performFaults, performAnswer}
 use Rattle.model.proofs.Cases.{split}
 use Rattle.plans.specs.Laying.{PlanResult}
 use Rattle.reading.proofs.Bounds.{counted-most}
@@ -64,7 +64,7 @@ module _ (b slice : List ℕ) {r : Answer} {slice′ : List ℕ} (l : length sli
   format-small e = rw (e .answer) (plan-small (wordCountFault house b) (pairs (formatPlan house b)) slice l)
 
   pub write-small : (f o : ℕ) (new : List ℕ) → PlanResult (write house b f o new slice) r slice′ → counted r < 2 ^ 63
-  unfolding write
+  unfolding write writeFrom
   write-small f o new e = let p : Plan = writePlan house (lowest house b) b f o new in rw (e .answer) (plan-small (writeFaults house b f o new p) (pairs p) slice l)
 
   pub length-small : (f n : ℕ) → PlanResult (setLength house b f n slice) r slice′ → counted r < 2 ^ 63

@@ -1,9 +1,9 @@
 -- What a call answers whose list of faults begins with another's: the other's answer where that is a refusal, else that of the rest. So a call may
 -- ask the other first.
 use mathlib.Core.Path.{_≡_, refl, _∙_}
-use mathlib.Core.Logic.{_≢_, _↔_}
+use mathlib.Core.Logic.{_≢_}
 use mathlib.Core.Bool.{Bool, true, false, not, cond, _&&_}
-use mathlib.Core.List.{[], _∷_, _++_, append-nil}
+use mathlib.Core.List.{List, [], _∷_, _++_, append-nil}
 use Prim.Native.Nat.{ℕ}
 use native.Mathlib.Omega.{arith}
 use lib.Dec.{T}
@@ -11,6 +11,7 @@ use Rattle.model.specs.declared.Answer.{Answer}
 use Rattle.model.specs.declared.Answer.the-variants.{Done, Refused}
 use Rattle.model.specs.declared.Fault.{Fault}
 use Rattle.model.specs.declared.Fault.the-variants.{WordCount, Trailer, Damaged, FileNumber, End, FreeBlocks, PlanLength, PairCount, Address}
+use Rattle.model.specs.Layout.{Layout}
 use Rattle.model.specs.Board.{wordCountSound, trailerSound, treesSound, accepted}
 use Rattle.model.specs.Answers.{Faults, number, answered, unlessRefused}
 use Rattle.model.specs.Calls.{wordCountFault, boardFaults, checkAnswer}
@@ -49,16 +50,33 @@ module _ (fs : Faults) (v n : ℕ) {r : Answer} (e : r ≡ answered fs v) where
   unfolding answered
   same-done z = rw append-nil at (first-done fs [] v n e z)
 
--- check answers 0 on an accepted board, and only there
+-- check answers 0 on an accepted board, and what is no refusal only there
+module _ (g : Layout) (b : List ℕ) where
+  abbrev verdict : Bool → Bool → Bool → Answer
+  verdict w l s = answered ((WordCount, not w) ∷ (Trailer, not l) ∷ (Damaged, not s) ∷ []) 0
+
+  pub checked : T (accepted g b) → checkAnswer g b ≡ Done 0
+  unfolding accepted checkAnswer boardFaults wordCountFault answered
+  checked t = by (wordCountSound g b) (trailerSound g b) (treesSound g b) t
+    where
+      by : (w l s : Bool) → T (w && l && s) → verdict w l s ≡ Done 0
+      by true true true t = refl
+      by true true false t = absurd t
+      by true false s t = absurd t
+      by false l s t = absurd t
+
+  pub check-accepts : {v : ℕ} → checkAnswer g b ≡ Done v → T (accepted g b)
+  unfolding accepted checkAnswer boardFaults wordCountFault answered
+  check-accepts {v} e = by (wordCountSound g b) (trailerSound g b) (treesSound g b) e
+    where
+      by : (w l s : Bool) → verdict w l s ≡ Done v → T (w && l && s)
+      by true true true e = tt
+      by true true false e = absurd (not-refused e refl)
+      by true false s e = absurd (not-refused e refl)
+      by false l s e = absurd (not-refused e refl)
+
 pub check-rule : CheckRule
-unfolding accepted checkAnswer boardFaults wordCountFault answered
-check-rule g b = by (wordCountSound g b) (trailerSound g b) (treesSound g b)
-  where
-    by : (w l s : Bool) → (answered ((WordCount, not w) ∷ (Trailer, not l) ∷ (Damaged, not s) ∷ []) 0 ≡ Done 0) ↔ T (w && l && s)
-    by true true true = (λ e. tt, λ t. refl)
-    by true true false = (λ e. absurd (not-refused e refl), λ t. absurd t)
-    by true false s = (λ e. absurd (not-refused e refl), λ t. absurd t)
-    by false l s = (λ e. absurd (not-refused e refl), λ t. absurd t)
+check-rule g b = (check-accepts g b, checked g b)
 
 -- *5 never occurs*
 pub never-five : (f : Fault) → number f ≢ 5

@@ -234,7 +234,7 @@ after-refused c before e = rw e
 
 module _ (g : Layout) (fit : Fits g) (b : List ℕ) (t : T (accepted g b)) (fresh : ℕ → ℕ) (order : Order g b fresh) where
   -- every call is done by good steps or refused, and without a plan then
-  call-either : (c : Change) (slice : List ℕ) → let p : Planned = calledFrom g fresh b c slice in Doing g fresh b c p ⊎ Refusing p
+  pub call-either : (c : Change) (slice : List ℕ) → let p : Planned = calledFrom g fresh b c slice in Doing g fresh b c p ⊎ Refusing p
   unfolding calledFrom writeFrom setLength fileOf altered planFrom givenUp All
   call-either (writing f o new) slice =
       let q : Plan = writePlan g fresh b f o (new .values) in

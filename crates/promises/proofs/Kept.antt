@@ -18,8 +18,8 @@ use Rattle.model.specs.Store.{Store, isBarrier, stores, performed, paired}
 use Rattle.model.specs.Plan.{pairs}
 use Rattle.model.specs.Format.{formatPlan}
 use Rattle.model.specs.Answers.{answered, unlessRefused, counted}
-use Rattle.model.specs.Calls.{Planned, wordCountFault, performFaults, performAnswer, performBoard, format}
-use Rattle.model.specs.Cut.{Change, writing, lengthTo, fileOf, called, planOf, planFor, after, lastArrived}
+use Rattle.model.specs.Calls.{Planned, wordCountFault, lowest, write, performFaults, performAnswer, performBoard, format}
+use Rattle.model.specs.Cut.{Change, writing, lengthTo, fileOf, calledFrom, called, planFrom, planOf, after, lastArrived}
 use Rattle.model.specs.Claims.{CutSafe, Empty}
 use Rattle.model.proofs.Cases.{either, is-true, and-left, and-right, and-both}
 use Rattle.model.proofs.Addresses.{all-map, all-holds, holds-all}
@@ -27,6 +27,7 @@ use Rattle.model.proofs.Refusals.{not-refused}
 use Rattle.model.proofs.Epochs.{planned-either}
 use Rattle.model.proofs.Accepting.{ranged, accepted-parts, facts, address-on-board}
 use Rattle.model.proofs.Formatted.{house-fits, format-on, format-empties}
+use Rattle.model.proofs.Supplied.{lowest-rule}
 use Rattle.model.proofs.Rules.{call-either, power-cut-rule, accuracy-rule, plan-rule}
 use Rattle.model.proofs.FormatCut.{format-rule}
 use Rattle.plans.specs.Laying.{PlanResult}
@@ -84,9 +85,9 @@ module _ (b : List ℕ) (t : T (accepted house b)) (c : Change) (slice : List �
       (stores (planOf p)) (holds-all (λ s. inRange house b (s .at / 8)) (stores (planOf p)) (plan-rule house house-fits b t c slice .1)))
 
   pairs-there : counted (p .answer) ≤ length (paired (p .slice))
-  unfolding planOf counted
-  pairs-there = elim (call-either house house-fits b t c slice) [
-    | inl d ↦ rw (d .answers) (plan-there (p .slice) (pairs (planFor house b c)) (rw (d .answers) at (d .plans)))
+  unfolding planOf counted called
+  pairs-there = elim (call-either house house-fits b t (lowest house b) (lowest-rule house b) c slice) [
+    | inl d ↦ rw (d .answers) (plan-there (p .slice) (pairs (planFrom house (lowest house b) b c)) (rw (d .answers) at (d .plans)))
     | inr r ↦ rw (r .answers) (omega arith)
   ]
 
@@ -116,11 +117,11 @@ module _ (b : List ℕ) (t : T (accepted house b)) (c : Change) (slice : List �
   }
 
 pub write-kept : WritePromise
-unfolding called fileOf
+unfolding called calledFrom write fileOf
 write-kept b t f o bytes slice r slice′ e = kept b t (writing f o bytes) slice r slice′ e
 
 pub set-length-kept : SetLengthPromise
-unfolding called fileOf
+unfolding called calledFrom fileOf
 set-length-kept b t f n slice r slice′ e = kept b t (lengthTo f n) slice r slice′ e
 
 -- ---- Format

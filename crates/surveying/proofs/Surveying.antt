@@ -5,7 +5,7 @@ use mathlib.Core.List.{List}
 use Prim.Native.Nat.{ℕ, _-_, _%_, _≤_}
 use native.Mathlib.Omega.{arith}
 use lib.ListN.{length, replicate}
-use lib.Dec.{leb, eqb, lit<}
+use lib.Dec.{T, leb, eqb, lit<}
 use borrow.Author.Tests.{leb-true}
 use Rattle.model.specs.declared.Fault.{Fault}
 use Rattle.model.specs.declared.Fault.the-variants.{WordCount, Trailer, Damaged}
@@ -13,10 +13,11 @@ use Rattle.model.specs.declared.Answer.{Answer}
 use Rattle.model.specs.declared.Answer.the-variants.{Done, Refused}
 use Rattle.model.specs.Lists.{every, pickFrom, member, distinct}
 use Rattle.model.specs.Layout.{house, files}
-use Rattle.model.specs.Board.{blockCount, liveBlocks, free, wordCountSound, trailerSound, leafSound, fileSound, treesSound}
+use Rattle.model.specs.Board.{blockCount, liveBlocks, free, wordCountSound, trailerSound, leafSound, fileSound, treesSound, accepted}
 use Rattle.model.specs.Answers.{answered}
 use Rattle.model.specs.Calls.{wordCountFault, boardFaults, checkAnswer}
-use Rattle.model.proofs.Cases.{true-left, true-right}
+use Rattle.model.proofs.Cases.{is-true, and-left, and-right, true-left, true-right}
+use Rattle.model.proofs.Refusals.{check-accepts}
 use Rattle.model.proofs.Live.{below, inode-below, live-below}
 use Rattle.trees.specs.Marks.{unmarked, marked, Marked}
 use Rattle.surveying.specs.Survey.{pointersSound, spare, Surveyed}
@@ -80,8 +81,8 @@ module _ {b m : List ℕ} where
       pub damaged : ok ≡ false → Surveyed b (Refused Damaged) m
       damaged z = refused (sym (answer-shape b ∙ rw (← ew, zw, ← et, zt, ← found b (sym ew ∙ zw) (sym et ∙ zt) pre c, z)))
 
-      pub accepted : ok ≡ true → Surveyed b (Done 0) m
-      accepted z = record { answer = sym (answer-shape b ∙ rw (← ew, zw, ← et, zt, ← found b (sym ew ∙ zw) (sym et ∙ zt) pre c, z)); marks = λ v _. rw pre at (c .left z) }
+      pub surveyed : ok ≡ true → Surveyed b (Done 0) m
+      surveyed z = record { answer = sym (answer-shape b ∙ rw (← ew, zw, ← et, zt, ← found b (sym ew ∙ zw) (sym et ∙ zt) pre c, z)); marks = λ v _. rw pre at (c .left z) }
 
 -- an accepted board
 pub record Sound (b : List ℕ) : Type 0 where
@@ -90,14 +91,13 @@ pub record Sound (b : List ℕ) : Type 0 where
   pub trees : treesSound house b ≡ true
 
 pub sound : (b : List ℕ) (v : ℕ) → checkAnswer house b ≡ Done v → Sound b
-sound b v e = by (wordCountSound house b) (trailerSound house b) (treesSound house b) refl refl refl (sym (answer-shape b) ∙ e)
-  where
-    by : (w t s : Bool) → wordCountSound house b ≡ w → trailerSound house b ≡ t → treesSound house b ≡ s →
-        cond (not w) (Refused WordCount) (cond (not t) (Refused Trailer) (cond (not s) (Refused Damaged) (Done 0))) ≡ Done v → Sound b
-    by true true true w t s e = record { words = w; trailer = t; trees = s }
-    by true true false w t s e = let n : _≡_ {A = ℕ} 0 1 = cc in absurd (omega arith)
-    by true false s w t z e = let n : _≡_ {A = ℕ} 0 1 = cc in absurd (omega arith)
-    by false t s w x z e = let n : _≡_ {A = ℕ} 0 1 = cc in absurd (omega arith)
+unfolding accepted
+sound b v e =
+    let w : Bool = wordCountSound house b in
+    let l : Bool = trailerSound house b in
+    let s : Bool = treesSound house b in
+    let t : T (w && l && s) = check-accepts house b e in
+    record { words = is-true w (and-left w l (and-left (w && l) s t)); trailer = is-true l (and-right w l (and-left (w && l) s t)); trees = is-true s (and-right (w && l) s t) }
 
 -- the free blocks are those that the marks have free
 pub free-spare : {b m : List ℕ} {r : Answer} (v : ℕ) → Surveyed b r m → r ≡ Done v → pickFrom 1 (blockCount house b - 2) (spare m) ≡ free house b

@@ -1,6 +1,6 @@
 use borrow.Author.Needs.{needs}
 use borrow.Author.Tests.{not-true, not-false}
-use Rattle.surveying.proofs.Surveying.{miscounted, mistrailed, damaged, accepted}
+use Rattle.surveying.proofs.Surveying.{miscounted, mistrailed, damaged, surveyed}
 use Rattle.surveying.proofs.survey.Statement.{statement}
 use Rattle.surveying.proofs.survey.Tie as tie
 
@@ -17,7 +17,7 @@ returns-3 c = let l = c .before .before .before in let t = l .before .before .be
 
 returns-4 : tie.Need-returns-4
 returns-4 c = let l = c .before .before .before in let t = l .before .before .before in let w = t .before .before in
-    accepted (w .word-count-sound .ensures) (not-false _ (t .before .if1 .left)) (t .trailer-sound .ensures) (not-false _ (l .before .before .if2 .left)) (w .before .before .before .pre)
+    surveyed (w .word-count-sound .ensures) (not-false _ (t .before .if1 .left)) (t .trailer-sound .ensures) (not-false _ (l .before .before .if2 .left)) (w .before .before .before .pre)
     (l .live .ensures) (not-false _ (c .if3 .left))
 
 pub survey-spec : {M : Type 1} → statement M
