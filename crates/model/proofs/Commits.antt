@@ -10,14 +10,14 @@ use lib.Dec.{T, leb, le→leb}
 use Rattle.model.specs.Lists.{tabulate, sum, one, occ}
 use Rattle.model.specs.Layout.{Layout, Fits, files}
 use Rattle.model.specs.Tree.{seen, span, blocks, sound}
-use Rattle.model.specs.Board.{rootBlocks, rootSound, greatest, blockCount, inodeBlock, leaf, root, size, contents, fileBlocks, liveBlocks, trailerSound, leafSound, fileSound, accepted}
+use Rattle.model.specs.Board.{rootBlocks, rootSound, greatest, blockCount, inodeBlock, leaf, root, size, walkTo, contents, fileBlocks, liveBlocks, trailerSound, leafSound, fileSound, accepted}
 use Rattle.model.specs.Fresh.{splice}
 use Rattle.model.proofs.Cases.{split, decide, and-both, tabulate-cong}
 use Rattle.model.proofs.Sums.{sum-cong, sum-add, only, only-same, only-other, sum-only, sum-only-at}
 use Rattle.model.proofs.Agree.{byteAt, agree, agree-none, agree-trans, seen-live, seen-dead, blocks-none, byteAt-past}
 use Rattle.model.proofs.Changed.{Changed}
 use Rattle.model.proofs.Grown.{Grown}
-use Rattle.model.proofs.Shown.{Same, rootByte, root-byte-in, root-byte-past, contents-bytes, root-blocks, root-byte, root-sound, words-pos, occ-live, leaf-of, count-kept, words-kept}
+use Rattle.model.proofs.Shown.{Same, rootByte, root-byte-in, root-byte-past, contents-bytes, root-blocks, root-byte, root-walk, root-sound, words-pos, occ-live, leaf-of, count-kept, words-kept}
 use Rattle.model.proofs.Accepting.{accepted-parts, parts-accepted, file-parts, root-sound-parts}
 
 -- file f is sound on b₂, reads `wanted`, and has its blocks of b and the extra ones, less those that are gone
@@ -197,11 +197,16 @@ pub record OneFile (g : Layout) (b b₂ : List ℕ) (f : ℕ) (wanted : List ℕ
   pub file : FileCommit g b b₂ f wanted within lessWithin
   pub spare : (q : ℕ) → occ q (liveBlocks g b) + beside q + within q ≤ 1
 
--- the board is accepted, the file reads as wanted, and the others as before
+-- file i is on b₂ as it is on b: it reads the same, and the walk to each byte ends where it ended
+pub record Kept (g : Layout) (b b₂ : List ℕ) (i : ℕ) : Type 0 where
+  pub reads : contents g b₂ i ≡ contents g b i
+  pub walks : (n : ℕ) → walkTo g b₂ i n ≡ walkTo g b i n
+
+-- the board is accepted, the file reads as wanted, and the others are as before
 pub record Outcome (g : Layout) (b b₂ : List ℕ) (f : ℕ) (wanted : List ℕ) : Type 0 where
   pub board : T (accepted g b₂)
   pub reads : contents g b₂ f ≡ wanted
-  pub kept : (i : ℕ) → i < files g → i ≢ f → contents g b₂ i ≡ contents g b i
+  pub kept : (i : ℕ) → i < files g → i ≢ f → Kept g b b₂ i
 
 module _ (g : Layout) (fit : Fits g) (b b₂ : List ℕ) (f : ℕ) (wanted : List ℕ) (beside lessBeside within lessWithin : ℕ → ℕ) (c : OneFile g b b₂ f wanted beside lessBeside within lessWithin) (t : T (accepted g b)) where
   -- what file i reads
@@ -210,6 +215,11 @@ module _ (g : Layout) (fit : Fits g) (b b₂ : List ℕ) (f : ℕ) (wanted : Lis
 
   other : (i : ℕ) → i < files g → i ≢ f → FileCommit g b b₂ i (contents g b i) (λ q. 0) (λ q. 0)
   other i u d = kept-commit g fit b b₂ (c .lengths) i (c .others .sizes i u d) (c .others .roots i u d) (c .others .trees i u d) (accepted-parts g b t .files-sound i u)
+
+  other-walks : (i : ℕ) → i < files g → i ≢ f → (n : ℕ) → walkTo g b₂ i n ≡ walkTo g b i n
+  unfolding walkTo
+  other-walks i u d n = rw (← (c .others .sizes i u d))
+      (sym (root-walk (g .words) (words-pos g fit) b b₂ (root g b i) (root g b₂ i) (size g b i) (c .others .roots i u d) (c .others .trees i u d) n))
 
   each : (i : ℕ) → i < files g → FileCommit g b b₂ i (reads-of i) (λ q. only i f (within q)) (λ q. only i f (lessWithin q))
   unfolding reads-of
@@ -236,7 +246,7 @@ module _ (g : Layout) (fit : Fits g) (b b₂ : List ℕ) (f : ℕ) (wanted : Lis
   one-file = record {
     board = commit-accepted g b b₂ commit t;
     reads = c .file .reads;
-    kept = λ i u d. other i u d .reads;
+    kept = λ i u d. record { reads = other i u d .reads; walks = other-walks i u d };
   }
 
   pub one-file-counts : f < files g → (q : ℕ) → occ q (liveBlocks g b₂) + lessBeside q + lessWithin q ≡ occ q (liveBlocks g b) + beside q + within q

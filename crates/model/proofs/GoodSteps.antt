@@ -1,8 +1,8 @@
 -- A step of a plan that is as it must be: its hidden stores are hidden and go to different words, its commit leaves the board accepted, the file
 -- reading as wanted and the others as before.
-use mathlib.Core.Path.{_≡_, refl}
+use mathlib.Core.Path.{_≡_, refl, sym, _∙_}
 use mathlib.Core.Logic.{_≢_, inl, inr}
-use mathlib.Core.Bool.{cond}
+use mathlib.Core.Bool.{Bool, cond, false≢true}
 use mathlib.Core.List.{List, [], _∷_}
 use Prim.Native.Nat.{ℕ, _+_, _/_, _≤_, _<_}
 use native.Mathlib.Omega.{arith}
@@ -25,6 +25,7 @@ use Rattle.model.proofs.Accepting.{Ranged, facts, address-on-board}
 use Rattle.model.proofs.Commits.{Outcome}
 use Rattle.model.proofs.HiddenStores.{hidden-in-range, hidden-all-same}
 use Rattle.model.proofs.Supplied.{Supply, stored-hidden, stored-apart, stored-not-live}
+use Rattle.model.proofs.Safety.{Stays}
 use Rattle.model.proofs.Steps.{committed, Reads, SafeStep}
 
 pub record GoodStep (g : Layout) (b : List ℕ) (f : ℕ) (p : Step) (wanted : List ℕ) : Type 0 where
@@ -56,46 +57,56 @@ only-others f w before e n = rw (ne-eqb e f n)
 abbrev pub InBlocks : Layout → List ℕ → ℕ → Type 0
 InBlocks g b a = Ranged g b (a / g .words)
 
--- a step that makes each file read as `wanted` says, with its commit at an address that At allows
-pub record StepTo (g : Layout) (b : List ℕ) (p : Step) (wanted : ℕ → List ℕ) (At : ℕ → Type 0) : Type 0 where
+-- a step that makes each file read as `wanted` says and leaves walks in files that are not touched as they are, with its commit at an address that At allows
+pub record StepTo (g : Layout) (touched : ℕ → Bool) (b : List ℕ) (p : Step) (wanted : ℕ → List ℕ) (At : ℕ → Type 0) : Type 0 where
   pub hides : All (λ s. T (hidden g b s)) (p .hidden)
   pub once : (x : ℕ) → occ x (addresses (p .hidden)) ≤ 1
   pub within : At (p .commit .at)
   pub board : T (accepted g (committed b p))
+  pub walks : Stays g touched b (committed b p)
   pub reads : Reads g (committed b p) wanted
 
--- a good step of one file
-pub step-one : (g : Layout) (b : List ℕ) (f : ℕ) (p : Step) (wanted : List ℕ) → GoodStep g b f p wanted → StepTo g b p (onlyFile f wanted (contents g b)) (InBlocks g b)
-step-one g b f p wanted s = record {
-  hides = s .hides;
-  once = s .once;
-  within = s .within;
-  board = s .outcome .board;
-  reads = λ e u. elim (decide e f) [
-    | inl z ↦ rw (z, only-file f wanted (contents g b)) (s .outcome .reads)
-    | inr n ↦ rw (only-others f wanted (contents g b) e n) (s .outcome .kept e u n)
-  ];
-}
+-- a good step touches one file
+abbrev pub theFile : ℕ → ℕ → Bool
+theFile f e = eqb e f
 
--- one that leaves every file as it reads
-pub step-quiet : (g : Layout) (b : List ℕ) (f : ℕ) → f < files g → (p : Step) → GoodStep g b f p (contents g b f) → StepTo g b p (contents g b) (InBlocks g b)
-step-quiet g b f f-lt p s = record {
-  hides = s .hides;
-  once = s .once;
-  within = s .within;
-  board = s .outcome .board;
-  reads = λ e u. elim (decide e f) [ inl z ↦ rw z (s .outcome .reads) | inr n ↦ s .outcome .kept e u n ];
-}
+module _ (g : Layout) (b : List ℕ) (f : ℕ) (p : Step) (wanted : List ℕ) (s : GoodStep g b f p wanted) where
+  good-walks : Stays g (theFile f) b (committed b p)
+  good-walks e u z = s .outcome .kept e u (λ same. false≢true (sym z ∙ eq-eqb e f same)) .walks
 
-pub step-safe : (g : Layout) (b : List ℕ) (p : Step) (wanted : ℕ → List ℕ) (At : ℕ → Type 0) → StepTo g b p wanted At → SafeStep g b p
-step-safe g b p wanted At s = record { hides = all-holds (hidden g b) (p .hidden) (s .hides); accepts = s .board }
+  pub step-one : StepTo g (theFile f) b p (onlyFile f wanted (contents g b)) (InBlocks g b)
+  step-one = record {
+    hides = s .hides;
+    once = s .once;
+    within = s .within;
+    board = s .outcome .board;
+    walks = good-walks;
+    reads = λ e u. elim (decide e f) [
+      | inl z ↦ rw (z, only-file f wanted (contents g b)) (s .outcome .reads)
+      | inr n ↦ rw (only-others f wanted (contents g b) e n) (s .outcome .kept e u n .reads)
+    ];
+  }
+
+  -- and may leave every file as it reads
+  pub step-quiet : wanted ≡ contents g b f → StepTo g (theFile f) b p (contents g b) (InBlocks g b)
+  step-quiet quiet = record {
+    hides = s .hides;
+    once = s .once;
+    within = s .within;
+    board = s .outcome .board;
+    walks = good-walks;
+    reads = λ e u. elim (decide e f) [ inl z ↦ rw z (s .outcome .reads ∙ quiet) | inr n ↦ s .outcome .kept e u n .reads ];
+  }
+
+pub step-safe : (g : Layout) (touched : ℕ → Bool) (b : List ℕ) (p : Step) (wanted : ℕ → List ℕ) (At : ℕ → Type 0) → StepTo g touched b p wanted At → SafeStep g touched b p
+step-safe g touched b p wanted At s = record { hides = all-holds (hidden g b) (p .hidden) (s .hides); accepts = s .board; walks = s .walks }
 
 -- Steps each good on the board that those before it leave, the last making each file read as wanted, those before leaving all as they read. The last may
 -- be committed where Last allows it, those before in blocks 1 to B − 2
-unfoldable pub GoodSteps : (g : Layout) (b : List ℕ) (ps : List Step) (wanted : ℕ → List ℕ) (Last : ℕ → Type 0) → Type 0
-GoodSteps g b [] wanted Last = Reads g b wanted
-GoodSteps g b (p ∷ []) wanted Last = StepTo g b p wanted Last
-GoodSteps g b (p ∷ q ∷ ps) wanted Last = StepTo g b p (contents g b) (InBlocks g b) × GoodSteps g (committed b p) (q ∷ ps) wanted Last
+unfoldable pub GoodSteps : (g : Layout) (touched : ℕ → Bool) (b : List ℕ) (ps : List Step) (wanted : ℕ → List ℕ) (Last : ℕ → Type 0) → Type 0
+GoodSteps g touched b [] wanted Last = Reads g b wanted
+GoodSteps g touched b (p ∷ []) wanted Last = StepTo g touched b p wanted Last
+GoodSteps g touched b (p ∷ q ∷ ps) wanted Last = StepTo g touched b p (contents g b) (InBlocks g b) × GoodSteps g touched (committed b p) (q ∷ ps) wanted Last
 
 -- ---- An epoch of hidden stores, performed
 

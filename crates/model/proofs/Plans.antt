@@ -31,7 +31,7 @@ use Rattle.model.proofs.Built.{used, used-add}
 use Rattle.model.proofs.Shown.{words-pos, count-kept, leaf-of, leaf-live, root-block, size-block}
 use Rattle.model.proofs.Supplied.{Supply}
 use Rattle.model.proofs.Steps.{committed, allCommitted, length-committed}
-use Rattle.model.proofs.GoodSteps.{GoodStep, GoodTurn, GoodSteps, StepTo, InBlocks, onlyFile, only-file, only-others, step-one, step-quiet}
+use Rattle.model.proofs.GoodSteps.{GoodStep, GoodTurn, GoodSteps, StepTo, InBlocks, theFile, onlyFile, only-file, only-others, step-one, step-quiet}
 use Rattle.model.proofs.Taking.{Takes, blocksOf, takes-blocks, steps-blocks, in-place-live}
 use Rattle.model.proofs.SizeWays.{shorten-good, lengthen-empty-good, lengthen-good}
 use Rattle.model.proofs.GrowthWay.{growthStep, growth-performed, growth-takes, growth-counts, growing-more, growing-cases, growth-good, growth-reaches, growth-supply}
@@ -43,7 +43,7 @@ use Rattle.model.proofs.Ways.{length-contents, lengthened, spliced-cuts
 -- Its steps are good; of the blocks that are not live it stores to those that it takes, the first of the fresh ones, and to no other; and the live blocks
 -- are those before and those taken, less those given up
 pub record GoodPlan (g : Layout) (b : List ℕ) (f : ℕ) (fresh : ℕ → ℕ) (wanted given : List ℕ) (p : Plan) : Type 0 where
-  pub steps-good : GoodSteps g b (p .steps) (onlyFile f wanted (contents g b)) (InBlocks g b)
+  pub steps-good : GoodSteps g (theFile f) b (p .steps) (onlyFile f wanted (contents g b)) (InBlocks g b)
   pub takes : (q : ℕ) → occ q (liveBlocks g b) ≡ 0 → (0 < occ q (blocksOf g (concat (planEpochs (p .steps))))) ↔ (0 < used fresh q 0 (p .taken))
   pub lives : (q : ℕ) → occ q (liveBlocks g (allCommitted b (p .steps))) + occ q given ≡ occ q (liveBlocks g b) + used fresh q 0 (p .taken)
 
@@ -79,12 +79,12 @@ module _ (g : Layout) (fit : Fits g) (b : List ℕ) (f : ℕ) (fresh : ℕ → �
   }
 
   -- a step that leaves the file as it reads and takes k blocks, and a plan of one step that takes the next
-  two-plan : f < files g → (s : Step) (k : ℕ) → GoodStep g b f s (contents g b f) → Takes g b fresh 0 k s
+  two-plan : (s : Step) (k : ℕ) → GoodStep g b f s (contents g b f) → Takes g b fresh 0 k s
       → ((q : ℕ) → occ q (liveBlocks g (committed b s)) ≡ occ q (liveBlocks g b) + used fresh q 0 k)
       → (given : List ℕ) (p : Plan) → OneStep g (committed b s) f fresh k wanted given p → k ≤ p .taken → GoodPlan g b f fresh wanted given (plan (s ∷ p .steps) (p .taken))
   unfolding plan GoodSteps allCommitted
-  two-plan f-lt s k first takes counts given p w le = record {
-    steps-good = rw (w .steps-are) (step-quiet g b f f-lt s first, second (step-one g (committed b s) f (w .only) wanted (w .good)));
+  two-plan s k first takes counts given p w le = record {
+    steps-good = rw (w .steps-are) (step-quiet g b f s (contents g b f) first refl, second (step-one g (committed b s) f (w .only) wanted (w .good)));
     lives = λ q.
         let total : used fresh q 0 (p .taken) ≡ used fresh q 0 k + used fresh q k (p .taken - k) =
         ap (used fresh q 0) (omega arith) ∙ used-add fresh q 0 k (p .taken - k) ∙ ap (λ (x : ℕ). used fresh q 0 k + used fresh q x (p .taken - k)) (zero-add k) in
@@ -106,15 +106,16 @@ module _ (g : Layout) (fit : Fits g) (b : List ℕ) (f : ℕ) (fresh : ℕ → �
   }
     where
       -- what is said on the board that the first step leaves, said on b
-      second : StepTo g (committed b s) (w .only) (onlyFile f wanted (contents g (committed b s))) (InBlocks g (committed b s)) → StepTo g (committed b s) (w .only) (onlyFile f wanted (contents g b)) (InBlocks g b)
+      second : StepTo g (theFile f) (committed b s) (w .only) (onlyFile f wanted (contents g (committed b s))) (InBlocks g (committed b s)) → StepTo g (theFile f) (committed b s) (w .only) (onlyFile f wanted (contents g b)) (InBlocks g b)
       second y = record {
         hides = y .hides;
         once = y .once;
         within = rw (count-kept g (committed b s) b (length-committed b s)) at (y .within);
         board = y .board;
+        walks = y .walks;
         reads = λ e u. elim (decide e f) [
           | inl z ↦ rw (z, only-file f wanted (contents g b)) (rw (z, only-file f wanted (contents g (committed b s))) at (y .reads e u))
-          | inr n ↦ rw (only-others f wanted (contents g b) e n) ((rw (only-others f wanted (contents g (committed b s)) e n) at (y .reads e u)) ∙ first .outcome .kept e u n)
+          | inr n ↦ rw (only-others f wanted (contents g b) e n) ((rw (only-others f wanted (contents g (committed b s)) e n) at (y .reads e u)) ∙ first .outcome .kept e u n .reads)
         ];
       }
 
@@ -257,7 +258,7 @@ module _ (g : Layout) (fit : Fits g) (b : List ℕ) (t : T (accepted g b)) (f : 
         unfolding growthTo plan afterwards
         after-growth room =
             let first : GoodStep g b f g-step (contents g b f) = growth-good g fit b t f f-lt l fresh lim supply e most more enough in
-            two-plan g fit b f fresh wanted f-lt g-step (p .taken) first (growth-takes g fit fresh b f (least (g .words) (g .height) e) f-lt)
+            two-plan g fit b f fresh wanted g-step (p .taken) first (growth-takes g fit fresh b f (least (g .words) (g .height) e) f-lt)
             (growth-counts g fit b t f f-lt l fresh lim supply e most more enough) (gives (committed b g-step)) (way (committed b g-step) (p .taken))
             (follows (committed b g-step) (first .outcome .board) (first .outcome .reads)
             (growth-reaches g fit b t f f-lt l fresh lim supply e most more enough) (p .taken) (growth-supply g fit b t f f-lt l fresh lim supply e most more enough) room)

@@ -1,20 +1,21 @@
 -- What is promised of every write and length change, in any order of taking blocks, from the fact that its plan is made of good steps: the power-cut
 -- rule, accuracy, the shape of plans, the blocks taken and given up.
-use mathlib.Core.Path.{_≡_, refl, _∙_}
+use mathlib.Core.Path.{_≡_, refl, ap, _∙_}
 use mathlib.Core.Logic.{_≢_, _⊎_, inl, inr, _↔_}
+use mathlib.Core.Bool.{Bool}
 use mathlib.Core.List.{List, [], _∷_, _++_, map}
 use Prim.Native.Nat.{ℕ, _+_, _-_, _/_, _^_, _≤_, _<_}
 use native.Mathlib.Omega.{arith}
 use lib.ListN.{length, take}
 use lib.Dec.{T, leb, ltb}
-use borrow.Author.Tests.{leb-false, ltb-false}
+use borrow.Author.Tests.{leb-false, ltb-false, ne-eqb}
 use Rattle.model.specs.declared.Answer.the-variants.{Done, Refused}
 use Rattle.model.specs.declared.Answer.{Answer}
 use Rattle.model.specs.declared.Fault.the-variants.{FileNumber, End, FreeBlocks}
 use Rattle.model.specs.declared.Fault.{Fault}
 use Rattle.model.specs.Lists.{tabulate, all, filter, concat, member, distinct, occ}
 use Rattle.model.specs.Layout.{Layout, Fits, files}
-use Rattle.model.specs.Board.{greatest, contents, liveBlocks, free, inRange, accepted}
+use Rattle.model.specs.Board.{greatest, walkTo, contents, liveBlocks, free, inRange, accepted}
 use Rattle.model.specs.Store.{Store, performed, stores, epochs, fenced}
 use Rattle.model.specs.Hidden.{hidden}
 use Rattle.model.specs.Plan.{Step, stepEpochs, planEpochs, Plan, pairs}
@@ -29,7 +30,7 @@ use Rattle.model.proofs.Counting.{occ-first, occ-distinct, member-occ}
 use Rattle.model.proofs.Perform.{All, all-append, Plain, stores-fenced}
 use Rattle.model.proofs.Addresses.{addresses, all-left, all-right, all-map, all-holds, all-concat}
 use Rattle.model.proofs.Refusals.{not-refused}
-use Rattle.model.proofs.Epochs.{Full, epochs-fenced, shaped, shaped-none, Passed, Refusing, planned-either}
+use Rattle.model.proofs.Epochs.{Full, epochs-fenced, shaped, shaped-none, Passed, Refusing, planned-either, standing-none}
 use Rattle.model.proofs.Splice.{bytes-small}
 use Rattle.model.proofs.Built.{used, used-first}
 use Rattle.model.proofs.Shown.{count-kept}
@@ -37,22 +38,22 @@ use Rattle.model.proofs.Accepting.{in-range, facts, address-on-board}
 use Rattle.model.proofs.Census.{member-free}
 use Rattle.model.proofs.Supplied.{supply-order, lowest-rule}
 use Rattle.model.proofs.HiddenStores.{hidden-in-range}
-use Rattle.model.proofs.Safety.{none-safe, Settled, settled-one}
-use Rattle.model.proofs.Steps.{committed, length-committed, allCommitted, Reads, SafeSteps, one-step, steps-stores, front, front-last, front-all, performed-steps, steps-rule, steps-accepted}
-use Rattle.model.proofs.GoodSteps.{StepTo, InBlocks, onlyFile, only-file, only-others, step-safe, GoodSteps}
+use Rattle.model.proofs.Safety.{none-safe, Stays, Settled, settled-one}
+use Rattle.model.proofs.Steps.{committed, length-committed, allCommitted, Reads, SafeSteps, one-step, steps-stores, front, front-last, front-all, performed-steps, steps-rule, steps-whole}
+use Rattle.model.proofs.GoodSteps.{StepTo, InBlocks, theFile, onlyFile, only-file, only-others, step-safe, GoodSteps}
 use Rattle.model.proofs.Taking.{blocksOf}
 use Rattle.model.proofs.Plans.{write-good, length-good, GoodPlan}
 
 -- ---- Good steps are safe, and leave all files reading as wanted
 
-module _ (g : Layout) (wanted : ℕ → List ℕ) (Last : ℕ → Type 0) where
-  pub good-safe-steps : (b : List ℕ) (ps : List Step) → GoodSteps g b ps wanted Last → SafeSteps g b ps
+module _ (g : Layout) (touched : ℕ → Bool) (wanted : ℕ → List ℕ) (Last : ℕ → Type 0) where
+  pub good-safe-steps : (b : List ℕ) (ps : List Step) → GoodSteps g touched b ps wanted Last → SafeSteps g touched b ps
   unfolding GoodSteps SafeSteps
   good-safe-steps b [] s = tt
-  good-safe-steps b (p ∷ []) s = one-step g b p (step-safe g b p wanted Last s)
-  good-safe-steps b (p ∷ q ∷ ps) s = (step-safe g b p (contents g b) (InBlocks g b) (s .0), λ l. s .0 .reads, good-safe-steps (committed b p) (q ∷ ps) (s .1))
+  good-safe-steps b (p ∷ []) s = one-step g touched b p (step-safe g touched b p wanted Last s)
+  good-safe-steps b (p ∷ q ∷ ps) s = (step-safe g touched b p (contents g b) (InBlocks g b) (s .0), λ l. s .0 .reads, good-safe-steps (committed b p) (q ∷ ps) (s .1))
 
-  pub good-reads : (b : List ℕ) (ps : List Step) → GoodSteps g b ps wanted Last → Reads g (allCommitted b ps) wanted
+  pub good-reads : (b : List ℕ) (ps : List Step) → GoodSteps g touched b ps wanted Last → Reads g (allCommitted b ps) wanted
   unfolding GoodSteps allCommitted
   good-reads b [] s = s
   good-reads b (p ∷ []) s = s .reads
@@ -96,13 +97,13 @@ module _ (g : Layout) (fit : Fits g) (b : List ℕ) (Last : ℕ → Type 0) (all
   hidden-blocks : (c : List ℕ) → length c ≡ length b → T (accepted g c) → (ss : List Store) → All (λ s. T (hidden g c s)) ss → All (λ s. InBlocks g b (s .at)) ss
   hidden-blocks c e t ss h = all-map (λ x. T (hidden g c x)) (λ x. InBlocks g b (x .at)) (λ x y. in-blocks c e (x .at) (hidden-in-range g fit c t x y)) ss h
 
-  module _ (wanted : ℕ → List ℕ) where
-    good-step-epochs : (c : List ℕ) → length c ≡ length b → T (accepted g c) → (p : Step) (w : ℕ → List ℕ) (At : ℕ → Type 0) → ((a : ℕ) → At a → Last a) → StepTo g c p w At
+  module _ (touched : ℕ → Bool) (wanted : ℕ → List ℕ) where
+    good-step-epochs : (c : List ℕ) → length c ≡ length b → T (accepted g c) → (p : Step) (w : ℕ → List ℕ) (At : ℕ → Type 0) → ((a : ℕ) → At a → Last a) → StepTo g touched c p w At
         → All (GoodEpoch Last) (stepEpochs (p .hidden) (p .commit))
     good-step-epochs c e t p w At at s = step-epochs (p .hidden) (p .commit) (s .once)
         (all-map (λ x. InBlocks g b (x .at)) (Inside Last) (λ x r. allowed .blocks (x .at) r) (p .hidden) (hidden-blocks c e t (p .hidden) (s .hides))) (at (p .commit .at) (s .within))
 
-    good-epochs : (c : List ℕ) → length c ≡ length b → T (accepted g c) → (ps : List Step) → GoodSteps g c ps wanted Last → All (GoodEpoch Last) (planEpochs ps)
+    good-epochs : (c : List ℕ) → length c ≡ length b → T (accepted g c) → (ps : List Step) → GoodSteps g touched c ps wanted Last → All (GoodEpoch Last) (planEpochs ps)
     unfolding GoodSteps planEpochs All
     good-epochs c e t [] s = tt
     good-epochs c e t (p ∷ []) s = all-append (GoodEpoch Last) (stepEpochs (p .hidden) (p .commit)) [] (good-step-epochs c e t p wanted Last (λ a r. r) s) tt
@@ -111,7 +112,7 @@ module _ (g : Layout) (fit : Fits g) (b : List ℕ) (Last : ℕ → Type 0) (all
         (good-epochs (committed c p) (length-committed c p ∙ e) (s .0 .board) (q ∷ ps) (s .1))
 
     -- all stores but the last go to blocks 1 to B − 2
-    good-front : (c : List ℕ) → length c ≡ length b → T (accepted g c) → (ps : List Step) → GoodSteps g c ps wanted Last → All (λ s. InBlocks g b (s .at)) (front (concat (planEpochs ps)))
+    good-front : (c : List ℕ) → length c ≡ length b → T (accepted g c) → (ps : List Step) → GoodSteps g touched c ps wanted Last → All (λ s. InBlocks g b (s .at)) (front (concat (planEpochs ps)))
     unfolding GoodSteps planEpochs concat All front
     good-front c e t [] s = tt
     good-front c e t (p ∷ []) s = rw (steps-stores p [], front-last (p .hidden) (p .commit)) (hidden-blocks c e t (p .hidden) (s .hides))
@@ -121,9 +122,9 @@ module _ (g : Layout) (fit : Fits g) (b : List ℕ) (Last : ℕ → Type 0) (all
 
 -- ---- A plan of good steps
 
-module _ (g : Layout) (fit : Fits g) (b : List ℕ) (t : T (accepted g b)) (ps : List Step) (wanted : ℕ → List ℕ) (Last : ℕ → Type 0) (allowed : Allowed g b Last) (good : GoodSteps g b ps wanted Last) where
+module _ (g : Layout) (fit : Fits g) (touched : ℕ → Bool) (b : List ℕ) (t : T (accepted g b)) (ps : List Step) (wanted : ℕ → List ℕ) (Last : ℕ → Type 0) (allowed : Allowed g b Last) (good : GoodSteps g touched b ps wanted Last) where
   all-good : All (GoodEpoch Last) (planEpochs ps)
-  all-good = good-epochs g fit b Last allowed wanted b refl t ps good
+  all-good = good-epochs g fit b Last allowed touched wanted b refl t ps good
 
   all-full : All Full (planEpochs ps)
   all-full = all-map (GoodEpoch Last) Full (λ e h. h .full) (planEpochs ps) all-good
@@ -150,19 +151,19 @@ module _ (g : Layout) (fit : Fits g) (b : List ℕ) (t : T (accepted g b)) (ps :
       rw plan-stores (all-concat (λ s. Last (s .at)) (planEpochs ps) each)
 
   pub plan-front : All (λ s. InBlocks g b (s .at)) (front (stores (fenced (planEpochs ps))))
-  plan-front = rw plan-stores (good-front g fit b Last allowed wanted b refl t ps good)
+  plan-front = rw plan-stores (good-front g fit b Last allowed touched wanted b refl t ps good)
 
-  -- performed whole, it leaves the board accepted, and all files reading as wanted
-  pub plan-reads : let b′ : List ℕ = performed b (stores (fenced (planEpochs ps))) in T (accepted g b′) × Reads g b′ wanted
-  plan-reads = rw (plan-stores, performed-steps b ps) (steps-accepted g b t ps (good-safe-steps g wanted Last b ps good), good-reads g wanted Last b ps good)
+  -- performed whole, it leaves the board accepted, walks in files that are not touched as they are, and all files reading as wanted
+  pub plan-reads : let b′ : List ℕ = performed b (stores (fenced (planEpochs ps))) in (T (accepted g b′) × Stays g touched b b′) × Reads g b′ wanted
+  plan-reads = rw (plan-stores, performed-steps b ps) (steps-whole g touched b t ps (good-safe-steps g touched wanted Last b ps good), good-reads g touched wanted Last b ps good)
 
   -- cut anywhere, it obeys the power-cut rule
-  pub plan-cut : (x : Cut) → let ss : List Store = fenced (planEpochs ps) in Names ss x → Settled g b (standing ss x b) wanted ss (lastArrived ss x)
-  plan-cut = steps-rule g fit b t ps (good-safe-steps g wanted Last b ps good) wanted (good-reads g wanted Last b ps good) (fenced (planEpochs ps)) plan-epochs
+  pub plan-cut : (x : Cut) → let ss : List Store = fenced (planEpochs ps) in Names ss x → Settled g touched b (standing ss x b) wanted ss (lastArrived ss x)
+  plan-cut = steps-rule g fit touched b t ps (good-safe-steps g touched wanted Last b ps good) wanted (good-reads g touched wanted Last b ps good) (fenced (planEpochs ps)) plan-epochs
 
 -- a plan of one file
 module _ (g : Layout) (fit : Fits g) (b : List ℕ) (t : T (accepted g b)) (f : ℕ) (f-lt : f < files g) (wanted : List ℕ) (p : Plan)
-    (good : GoodSteps g b (p .steps) (onlyFile f wanted (contents g b)) (InBlocks g b)) where
+    (good : GoodSteps g (theFile f) b (p .steps) (onlyFile f wanted (contents g b)) (InBlocks g b)) where
   abbrev now : ℕ → List ℕ
   now = onlyFile f wanted (contents g b)
 
@@ -172,24 +173,28 @@ module _ (g : Layout) (fit : Fits g) (b : List ℕ) (t : T (accepted g b)) (f : 
   pub one-altered : Altered g b (performed b (stores (pairs p))) f wanted
   unfolding pairs
   one-altered =
-      let r = plan-reads g fit b t (p .steps) now (InBlocks g b) all-in good in
-      record { board = r .0; file = r .1 f f-lt ∙ only-file f wanted (contents g b); others = λ e u n. r .1 e u ∙ only-others f wanted (contents g b) e n }
+      let r = plan-reads g fit (theFile f) b t (p .steps) now (InBlocks g b) all-in good in
+      record { board = r .0 .0; file = r .1 f f-lt ∙ only-file f wanted (contents g b); others = λ e u n. r .1 e u ∙ only-others f wanted (contents g b) e n }
 
   pub one-cut : (x : Cut) → Names (pairs p) x → CutSafe g b (standing (pairs p) x b) f wanted (pairs p) (lastArrived (pairs p) x)
   unfolding pairs
-  one-cut x u = rw (only-file f wanted (contents g b)) at (settled-one g b (standing (pairs p) x b) now (pairs p) (lastArrived (pairs p) x)
-      (plan-cut g fit b t (p .steps) now (InBlocks g b) all-in good x u) f f-lt (λ e v n. only-others f wanted (contents g b) e n))
+  one-cut x u = rw (only-file f wanted (contents g b)) at (settled-one g (theFile f) b (standing (pairs p) x b) now (pairs p) (lastArrived (pairs p) x)
+      (plan-cut g fit (theFile f) b t (p .steps) now (InBlocks g b) all-in good x u) f f-lt (λ e v n. only-others f wanted (contents g b) e n))
+
+  pub one-stays : (x : Cut) → Names (pairs p) x → (e : ℕ) → e < files g → e ≢ f → (i : ℕ) → walkTo g (standing (pairs p) x b) e i ≡ walkTo g b e i
+  unfolding pairs
+  one-stays x u e e-lt n = plan-cut g fit (theFile f) b t (p .steps) now (InBlocks g b) all-in good x u .walks e e-lt (ne-eqb e f n)
 
   pub one-stores : stores (pairs p) ≡ concat (planEpochs (p .steps))
   unfolding pairs
-  one-stores = plan-stores g fit b t (p .steps) now (InBlocks g b) all-in good
+  one-stores = plan-stores g fit (theFile f) b t (p .steps) now (InBlocks g b) all-in good
 
   pub one-shaped : Shaped (pairs p) × T (all (λ s. inRange g b (s .at / g .words)) (stores (pairs p)))
   unfolding pairs
   one-shaped = (
-    plan-shaped g fit b t (p .steps) now (InBlocks g b) all-in good,
+    plan-shaped g fit (theFile f) b t (p .steps) now (InBlocks g b) all-in good,
     all-holds (λ s. inRange g b (s .at / g .words)) (stores (pairs p)) (all-map (λ s. InBlocks g b (s .at)) (λ s. T (inRange g b (s .at / g .words))) (λ s r. in-range g b (s .at / g .words) r)
-        (stores (pairs p)) (plan-within g fit b t (p .steps) now (InBlocks g b) all-in good)),
+        (stores (pairs p)) (plan-within g fit (theFile f) b t (p .steps) now (InBlocks g b) all-in good)),
   )
 
 -- ---- Calls
@@ -275,6 +280,7 @@ module _ (g : Layout) (fit : Fits g) (b : List ℕ) (t : T (accepted g b)) (fres
         shaped = rw (d .plans) (one-shaped g fit b t (fileOf c) (d .file-in) (altered c before) p (d .good .steps-good));
         takes = rw (d .plans) (λ some k m. takes-are k m);
         cuts = rw (after-done c before (d .answers), d .plans) (one-cut g fit b t (fileOf c) (d .file-in) (altered c before) p (d .good .steps-good));
+        stays = rw (d .plans) (one-stays g fit b t (fileOf c) (d .file-in) (altered c before) p (d .good .steps-good));
         alters = rw (after-done c before (d .answers), d .plans) (one-altered g fit b t (fileOf c) (d .file-in) (altered c before) p (d .good .steps-good));
         lives = rw (d .plans) (λ n e. lives-are);
       }
@@ -286,6 +292,7 @@ module _ (g : Layout) (fit : Fits g) (b : List ℕ) (t : T (accepted g b)) (fres
       shaped = rw (r .plans) (shaped-none, tt);
       takes = rw (r .plans) (λ some. absurd (omega arith));
       cuts = rw (after-refused c before (r .answers), r .plans) (λ x l. none-safe [] refl b g t (fileOf c) x (lastArrived [] x));
+      stays = rw (r .plans) (λ x l e u n i. ap (λ (c : List ℕ). walkTo g c e i) (standing-none [] refl x b));
       alters = rw (after-refused c before (r .answers), r .plans) record { board = t; file = refl; others = λ e l n. refl };
       lives = λ n e. absurd (not-refused e (r .answers));
     }

@@ -1,7 +1,7 @@
 -- Safe plans obey the power-cut rule, where stores that are hidden show nothing.
 use mathlib.Core.Path.{_≡_, refl, sym, ap, subst, _∙_}
 use mathlib.Core.Logic.{_≢_, _⊎_, inl, inr, _↔_}
-use mathlib.Core.Bool.{Bool, true, false, cond}
+use mathlib.Core.Bool.{Bool, true, false, cond, false≢true}
 use mathlib.Core.List.{List, [], _∷_}
 use Prim.Native.Nat.{ℕ, zero, suc, _≤_, _<_}
 use native.Mathlib.Omega.{arith}
@@ -10,7 +10,7 @@ use lib.Dec.{T}
 use borrow.Author.Tests.{lt-ltb, le-ltb, eq-eqb, ne-eqb}
 use Rattle.model.specs.Lists.{all, consIf, concat}
 use Rattle.model.specs.Layout.{Layout, Fits, files}
-use Rattle.model.specs.Board.{contents, accepted}
+use Rattle.model.specs.Board.{walkTo, contents, accepted}
 use Rattle.model.specs.Store.{Store, performed, epochs}
 use Rattle.model.specs.Hidden.{hidden}
 use Rattle.model.specs.Cut.{Cut, chosen, Names, standing}
@@ -100,23 +100,29 @@ outcome-settled {before} {now} {wanted} {arrived} (alike s e) = by arrived
 
 -- ---- Whole boards
 
--- Epochs of two or more stores are hidden on the board as earlier epochs left it. Epochs of one store leave the board accepted; of these only
--- number d changes what any file reads
-pub record OneTurn (g : Layout) (b : List ℕ) (es : List (List Store)) (d : ℕ) : Type 0 where
+-- the walk to each byte of a file that is not touched ends where it ended
+abbrev pub Stays : Layout → (ℕ → Bool) → List ℕ → List ℕ → Type 0
+Stays g touched b b′ = (e : ℕ) → e < files g → touched e ≡ false → (n : ℕ) → walkTo g b′ e n ≡ walkTo g b e n
+
+-- Epochs of two or more stores are hidden on the board as earlier epochs left it. Epochs of one store leave the board accepted and walks in files that
+-- are not touched as they are; of these epochs only number d changes what any file reads
+pub record OneTurn (g : Layout) (touched : ℕ → Bool) (b : List ℕ) (es : List (List Store)) (d : ℕ) : Type 0 where
   pub hides : (i : ℕ) → i < length es → 1 < length (getD es i []) → T (all (hidden g (left b es i)) (getD es i []))
   pub accepts : (i : ℕ) → i < length es → length (getD es i []) ≡ 1 → T (accepted g (left b es (suc i)))
   pub keeps : (i : ℕ) → i < length es → length (getD es i []) ≡ 1 → i ≢ d → (e : ℕ) → e < files g → contents g (left b es (suc i)) e ≡ contents g (left b es i) e
+  pub walks : (i : ℕ) → i < length es → length (getD es i []) ≡ 1 → Stays g touched (left b es i) (left b es (suc i))
 
 -- b′ stands where b was lent and each file is to read as `wanted` says: all files read as wanted where the store that decides arrived, and as before where not
-pub record Settled (g : Layout) (b b′ : List ℕ) (wanted : ℕ → List ℕ) (ss : List Store) (arrived : Bool) : Type 0 where
+pub record Settled (g : Layout) (touched : ℕ → Bool) (b b′ : List ℕ) (wanted : ℕ → List ℕ) (ss : List Store) (arrived : Bool) : Type 0 where
   pub board : T (accepted g b′)
+  pub walks : Stays g touched b b′
   pub reads : (e : ℕ) → e < files g → contents g b′ e ≡ cond arrived (wanted e) (contents g b e)
   pub planned : (e : ℕ) → e < files g → contents g b e ≢ wanted e → 0 < length ss
 
 -- a store to one file alone
-pub settled-one : (g : Layout) (b b′ : List ℕ) (wanted : ℕ → List ℕ) (ss : List Store) (arrived : Bool) → Settled g b b′ wanted ss arrived
+pub settled-one : (g : Layout) (touched : ℕ → Bool) (b b′ : List ℕ) (wanted : ℕ → List ℕ) (ss : List Store) (arrived : Bool) → Settled g touched b b′ wanted ss arrived
     → (f : ℕ) → f < files g → ((e : ℕ) → e < files g → e ≢ f → wanted e ≡ contents g b e) → CutSafe g b b′ f (wanted f) ss arrived
-settled-one g b b′ wanted ss arrived s f f-lt same = record {
+settled-one g touched b b′ wanted ss arrived s f f-lt same = record {
   board = s .board;
   wholly = wholly arrived (s .reads f f-lt);
   others = λ e u d. others arrived e (same e u d) (s .reads e u);
@@ -136,12 +142,13 @@ settled-one g b b′ wanted ss arrived s f f-lt same = record {
     decides true n r = (λ h. tt, λ h. r)
     decides false n r = (λ h. absurd (n (sym r ∙ h)), λ h. absurd h)
 
--- a safe plan of one file
-safe-turn : (g : Layout) (b : List ℕ) (f : ℕ) (es : List (List Store)) (d : ℕ) → SafePlan g b f es d → OneTurn g b es d
+-- a safe plan of one file, which may touch any
+safe-turn : (g : Layout) (b : List ℕ) (f : ℕ) (es : List (List Store)) (d : ℕ) → SafePlan g b f es d → OneTurn g (λ e. true) b es d
 safe-turn g b f es d s = record {
   hides = s .hides;
   accepts = s .accepts;
   keeps = λ i l one n e u. elim (decide e f) [ inl z ↦ rw z (s .keeps i l one n) | inr m ↦ s .others i l one e u m ];
+  walks = λ i l one e u z. absurd (false≢true (sym z));
 }
 
 -- what stands after a cut in an epoch: where it is not one store, a board that shows what the epochs before left; where it is one, the board without it or with it
@@ -155,7 +162,7 @@ module _ (g : Layout) (fit : Fits g) where
   pub hidden-shows : (b : List ℕ) → T (accepted g b) → (ss : List Store) → T (all (hidden g b) ss) → Shows g b (performed b ss)
   hidden-shows b ok ss h = subst (λ (r : List Store). Shows g b (performed b r)) (chosen-all ss) (hidden-rule g fit b ok ss h (λ i. true))
 
-  module _ (b : List ℕ) (ok : T (accepted g b)) (es : List (List Store)) (d : ℕ) (safe : OneTurn g b es d) where
+  module _ (touched : ℕ → Bool) (b : List ℕ) (ok : T (accepted g b)) (es : List (List Store)) (d : ℕ) (safe : OneTurn g touched b es d) where
     all-hidden : (i : ℕ) → i < length es → length (getD es i []) ≢ 1 → T (all (hidden g (left b es i)) (getD es i []))
     unfolding all
     all-hidden i l n = elim (decide (length (getD es i [])) 0) [
@@ -190,6 +197,15 @@ module _ (g : Layout) (fit : Fits g) where
       -- where epoch d is not one store, nothing changes file f
       left-alike : (i : ℕ) → i ≡ d → i < length es → length (getD es i []) ≢ 1 → contents g b f ≡ contents g (left b es (length es)) f
       left-alike i e l n = sym (left-before i (omega arith) (omega arith)) ∙ sym (epoch-shows i l (left-accepted i (omega arith)) n .reads f f-lt) ∙ left-after (suc i) l (omega arith)
+
+    left-walks : (i : ℕ) → i ≤ length es → Stays g touched b (left b es i)
+    left-walks i l e u z n = unchanged (λ k. walkTo g (left b es k) e n) 0 i (omega arith) (λ k v w. step k (omega arith)) ∙ ap (λ (c : List ℕ). walkTo g c e n) (left-zero b es)
+      where
+        step : (k : ℕ) → k < length es → walkTo g (left b es (suc k)) e n ≡ walkTo g (left b es k) e n
+        step k v = elim (decide (length (getD es k [])) 1) [
+          | inl one ↦ safe .walks k v one e u z n
+          | inr m ↦ epoch-shows k v (left-accepted k (omega arith)) m .walks e u n
+        ]
 
     module _ (x : Cut) (x-lt : x .epoch < length es) where
       now : List ℕ
@@ -239,10 +255,15 @@ module _ (g : Layout) (fit : Fits g) where
               | inr m ↦ away m (r ∙ left-keeps f f-lt (x .epoch) x-lt m)
             ]
 
-      now-settled : (ss : List Store) → 0 < length ss → Settled g b now (contents g (left b es (length es))) ss (decided d x)
+      now-walks : Stands g b es x now → Stays g touched b now
+      now-walks (hid n s) e u z i = s .walks e u i ∙ left-walks (x .epoch) (omega arith) e u z i
+      now-walks (stayed t y) e u z i = rw y (left-walks (x .epoch) (omega arith) e u z i)
+      now-walks (moved t y) e u z i = rw y (left-walks (suc (x .epoch)) x-lt e u z i)
+
+      now-settled : (ss : List Store) → 0 < length ss → Settled g touched b now (contents g (left b es (length es))) ss (decided d x)
       now-settled ss some =
           let s : Stands g b es x now = stands in
-          record { board = now-accepted s; reads = λ e u. outcome-settled (now-outcome e u s); planned = λ e u n. some }
+          record { board = now-accepted s; walks = now-walks s; reads = λ e u. outcome-settled (now-outcome e u s); planned = λ e u n. some }
 
 -- ---- Plans without epochs
 
@@ -256,8 +277,9 @@ module _ (ss : List Store) (none : epochs ss ≡ []) (b : List ℕ) where
   left-none = rw none (left-zero b [])
 
   -- a cut leaves the board, whatever is said to have arrived
-  pub none-settled : (g : Layout) → T (accepted g b) → (x : Cut) (arrived : Bool) → Settled g b (standing ss x b) (contents g b) ss arrived
-  none-settled g ok x arrived = rw (standing-none ss none x b) record { board = ok; reads = λ e u. same arrived (contents g b e); planned = λ e u n. absurd (n refl) }
+  pub none-settled : (g : Layout) (touched : ℕ → Bool) → T (accepted g b) → (x : Cut) (arrived : Bool) → Settled g touched b (standing ss x b) (contents g b) ss arrived
+  none-settled g touched ok x arrived =
+      rw (standing-none ss none x b) record { board = ok; walks = λ e u z n. refl; reads = λ e u. same arrived (contents g b e); planned = λ e u n. absurd (n refl) }
     where
       same : (t : Bool) (l : List ℕ) → l ≡ cond t l l
       same true l = refl
@@ -273,14 +295,14 @@ module _ (ss : List Store) (none : epochs ss ≡ []) (b : List ℕ) where
   }
 
 -- the rule over all files at once
-pub turn-rule : (g : Layout) → Fits g → (b : List ℕ) → T (accepted g b) → (ss : List Store) (d : ℕ) → OneTurn g b (epochs ss) d → (x : Cut) → Names ss x
-    → Settled g b (standing ss x b) (contents g (left b (epochs ss) (length (epochs ss)))) ss (decided d x)
+pub turn-rule : (g : Layout) → Fits g → (touched : ℕ → Bool) (b : List ℕ) → T (accepted g b) → (ss : List Store) (d : ℕ) → OneTurn g touched b (epochs ss) d → (x : Cut) → Names ss x
+    → Settled g touched b (standing ss x b) (contents g (left b (epochs ss) (length (epochs ss)))) ss (decided d x)
 unfolding standing left now
-turn-rule g fit b ok ss d safe x x-lt = elim (decide (length (epochs ss)) 0) [
+turn-rule g fit touched b ok ss d safe x x-lt = elim (decide (length (epochs ss)) 0) [
   | inl z ↦
       let none : epochs ss ≡ [] = empty-none (epochs ss) z in
-      rw (left-none ss none b) (none-settled ss none b g ok x (decided d x))
-  | inr n ↦ now-settled g fit b ok (epochs ss) d safe x (omega arith) ss (epochs-some ss (omega arith))
+      rw (left-none ss none b) (none-settled ss none b g touched ok x (decided d x))
+  | inr n ↦ now-settled g fit touched b ok (epochs ss) d safe x (omega arith) ss (epochs-some ss (omega arith))
 ]
 
 -- and of one file
@@ -288,17 +310,17 @@ module _ (g : Layout) (fit : Fits g) (b : List ℕ) (ok : T (accepted g b)) (f :
   left-others : (e : ℕ) → e < files g → e ≢ f → (i : ℕ) → i ≤ length es → contents g (left b es i) e ≡ contents g b e
   left-others e e-lt n i l = unchanged (λ k. contents g (left b es k) e) 0 i (omega arith) (λ k u v. step k (omega arith)) ∙ ap (λ (c : List ℕ). contents g c e) (left-zero b es)
     where
-      turn : OneTurn g b es d
+      turn : OneTurn g (λ i. true) b es d
       turn = safe-turn g b f es d safe
 
       step : (k : ℕ) → k < length es → contents g (left b es (suc k)) e ≡ contents g (left b es k) e
       step k v = elim (decide (length (getD es k [])) 1) [
         | inl one ↦ safe .others k v one e e-lt n
-        | inr m ↦ epoch-shows g fit b ok es d turn k v (left-accepted g fit b ok es d turn k (omega arith)) m .reads e e-lt
+        | inr m ↦ epoch-shows g fit (λ i. true) b ok es d turn k v (left-accepted g fit (λ i. true) b ok es d turn k (omega arith)) m .reads e e-lt
       ]
 
 pub safe-rule : SafeRule
 safe-rule g fit b ok f f-lt ss d safe x x-lt =
     let es : List (List Store) = epochs ss in
-    settled-one g b (standing ss x b) (contents g (left b es (length es))) ss (decided d x) (turn-rule g fit b ok ss d (safe-turn g b f es d safe) x x-lt) f f-lt
+    settled-one g (λ e. true) b (standing ss x b) (contents g (left b es (length es))) ss (decided d x) (turn-rule g fit (λ e. true) b ok ss d (safe-turn g b f es d safe) x x-lt) f f-lt
     (λ e u n. left-others g fit b ok f es d safe e u n (length es) (omega arith))

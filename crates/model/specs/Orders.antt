@@ -7,8 +7,8 @@ use lib.ListN.{length}
 use lib.Dec.{T}
 use Rattle.model.specs.declared.Answer.the-variants.{Done}
 use Rattle.model.specs.Lists.{tabulate, all, member, occ}
-use Rattle.model.specs.Layout.{Layout, Fits}
-use Rattle.model.specs.Board.{contents, liveBlocks, free, inRange, accepted}
+use Rattle.model.specs.Layout.{Layout, Fits, files}
+use Rattle.model.specs.Board.{walkTo, contents, liveBlocks, free, inRange, accepted}
 use Rattle.model.specs.Store.{Store, performed, stores}
 use Rattle.model.specs.Calls.{Planned, lowest}
 use Rattle.model.specs.Cut.{Change, fileOf, calledFrom, planFrom, givenUp, planOf, after, Cut, Names, standing, lastArrived}
@@ -43,6 +43,8 @@ module _ (g : Layout) (fresh : ℕ → ℕ) (b : List ℕ) (c : Change) (slice :
     pub shaped : Shaped ss × T (all (λ s. inRange g b (s .at / g .words)) (stores ss))
     pub takes : 0 < length ss → (k : ℕ) → T (member k (free g b)) → T (member k (map (λ s. s .at / g .words) (stores ss))) ↔ T (member k taken)
     pub cuts : (x : Cut) → Names ss x → CutSafe g b (standing ss x b) (fileOf c) wanted ss (lastArrived ss x)
+    -- and that a walk to a byte of another file ends where it ended
+    pub stays : (x : Cut) → Names ss x → (e : ℕ) → e < files g → e ≢ fileOf c → (i : ℕ) → walkTo g (standing ss x b) e i ≡ walkTo g b e i
     pub alters : Altered g b (performed b (stores ss)) (fileOf c) wanted
     -- and, where it is done, that the live blocks after it and those given up are the live blocks before it and those taken, each as often as it occurs:
     -- the live blocks are then those before, less those given up, and those taken and kept
