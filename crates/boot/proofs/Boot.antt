@@ -22,9 +22,9 @@ use Rattle.model.specs.Answers.{Faults, answered, unlessRefused}
 use Rattle.model.specs.Calls.{wordCountFault, boardFaults, fileFaults, checkAnswer, freeCountAnswer, sizeAnswer, readCount, readAnswer, readBuffer, planned, lowest, writeFaults, writeFrom, write, setLength, format, performFaults, performAnswer}
 use Rattle.model.specs.Cut.{Change, writing, lengthTo, calledFrom, called}
 use Rattle.model.specs.Claims.{SameCalls, BootRule}
-use Rattle.model.proofs.Cases.{true-left, every-cong, joined-cong, every-of}
+use Rattle.model.proofs.Cases.{true-left, every-cong, joined-cong}
 use Rattle.model.proofs.Shown.{words-pos, leaf-of, words-kept}
-use Rattle.model.proofs.Accepting.{Ranged, inode-range, leaf-range, facts, counted}
+use Rattle.model.proofs.Accepting.{Ranged, inode-range, leaves-range, facts, counted}
 use Rattle.boot.proofs.Alike.{Alike, dropped-alike, Found, count-alike, trailer-alike, inode-alike, pointer-alike, leaf-alike, size-alike, file-blocks-alike, file-sound-alike, contents-alike}
 use Rattle.boot.proofs.BootPlans.{length-plan-alike, write-plan-alike}
 
@@ -87,9 +87,6 @@ record Rooted (g : Layout) (b : List ℕ) : Type 0 where
   inode-there : 0 < inodeBlock g b
   leaves-there : (l : ℕ) → l < g .leaves → Ranged g b (leaf g b l)
 
-leaves-found : (g : Layout) (b : List ℕ) → every (g .leaves) (leafSound g b) ≡ true → (l : ℕ) → l < g .leaves → Ranged g b (leaf g b l)
-leaves-found g b e l h = leaf-range g b l (every-of (g .leaves) (leafSound g b) (rw e tt) l h)
-
 module _ (g : Layout) (fit : Fits g) (b : List ℕ) where
   trailer-off : wordCountSound g b ≡ true → 0 < blockCount g b - 1
   trailer-off e = omega (arith, counted g fit b (rw e tt) .blocks-least)
@@ -132,7 +129,7 @@ module _ (g : Layout) (fit : Fits g) {b b′ : List ℕ} (same : Alike (g .words
       let l′ : Bool = every (g .leaves) (leafSound g b′) in
       let f : Bool = every (files g) (fileSound g b) in
       let f′ : Bool = every (files g) (fileSound g b′) in
-      let found-by : l ≡ true → Rooted g b = λ e. record { trailer-there = there; inode-there = inode; leaves-there = leaves-found g b e } in
+      let found-by : l ≡ true → Rooted g b = λ e. record { trailer-there = there; inode-there = inode; leaves-there = leaves-range g b e } in
       and-alike (l && f) (l′ && f′) (distinct (liveBlocks g b)) (distinct (liveBlocks g b′))
       (and-alike l l′ f f′ (λ t. every (g .leaves) (λ j. leaf-sound-alike there inode j t))
       (λ e. every-cong (files g) (fileSound g b) (fileSound g b′) (λ j u. file-sound-alike g same (file-found g fit b (found-by e) j u))))

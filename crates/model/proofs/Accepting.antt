@@ -1,7 +1,7 @@
 -- What it says of a board that it is accepted, as facts on numbers.
 use mathlib.Core.Path.{_≡_}
 use mathlib.Core.Logic.{inl, inr}
-use mathlib.Core.Bool.{Bool, _&&_}
+use mathlib.Core.Bool.{Bool, true, _&&_}
 use mathlib.Core.List.{List}
 use Prim.Native.Nat.{ℕ, zero, suc, _+_, _-_, _*_, _/_, _%_, _≤_, _<_, _^_}
 use native.Mathlib.Omega.{arith}
@@ -122,6 +122,9 @@ module _ (g : Layout) (b : List ℕ) where
   pub leaf-range : (l : ℕ) → T (leafSound g b l) → Ranged g b (leaf g b l)
   unfolding leafSound
   leaf-range l t = ranged g b (leaf g b l) (and-right (eqb (inodePointer g b l % g .words) 0) (inRange g b (leaf g b l)) t)
+
+  pub leaves-range : every (g .leaves) (leafSound g b) ≡ true → (l : ℕ) → l < g .leaves → Ranged g b (leaf g b l)
+  leaves-range e l u = leaf-range l (every-of (g .leaves) (leafSound g b) (rw e tt) l u)
 
 -- an accepted board, as facts on numbers
 pub record Facts (g : Layout) (b : List ℕ) : Type 0 where

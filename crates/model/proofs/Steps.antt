@@ -118,7 +118,7 @@ unfolding planEpochs
 ends-in-one [] d e = absurd (omega arith)
 ends-in-one (p ∷ ps) d e = ends-step (p .hidden) (p .commit) (planEpochs ps) (ends-in-one ps) d e
 
-step-some : (ss : List Store) (c : Store) (es : List (List Store)) → 0 < length (stepEpochs ss c ++ es)
+pub step-some : (ss : List Store) (c : Store) (es : List (List Store)) → 0 < length (stepEpochs ss c ++ es)
 unfolding stepEpochs
 step-some [] c es = omega arith
 step-some (s ∷ ss) c es = omega arith

@@ -18,6 +18,7 @@ use Rattle.model.specs.Fresh.{Page, stored}
 use Rattle.model.specs.Change.{levels, levelTop, growing, growthTo, growth, grownInode, isTail, emptyTailTo, emptyTail, tail, shadowInside, shadowWithLength, chosenWay, grownPlan}
 use Rattle.model.proofs.Spans.{least-reaches}
 use Rattle.model.proofs.Perform.{length-performed, performed-append, length-stored}
+use Rattle.model.proofs.Steps.{step-some}
 use Rattle.model.proofs.Epochs.{length-flat, paired-flat}
 use Rattle.plans.specs.Laying.{onto, closing, Laid}
 use Rattle.plans.proofs.Laying as Laying
@@ -46,11 +47,6 @@ epochs-append [] qs = refl
 epochs-append (p ∷ ps) qs =
     ap (λ (r : List (List Store)). stepEpochs (p .hidden) (p .commit) ++ r) (epochs-append ps qs)
     ∙ sym (append-assoc (stepEpochs (p .hidden) (p .commit)) (planEpochs ps) (planEpochs qs))
-
-step-some : (ss : List Store) (s : Store) (es : List (List Store)) → 0 < length (stepEpochs ss s ++ es)
-unfolding stepEpochs
-step-some [] s es = omega arith
-step-some (x ∷ ss) s es = omega arith
 
 epochs-some : (ps : List Step) → 0 < length ps → 0 < length (planEpochs ps)
 unfolding planEpochs

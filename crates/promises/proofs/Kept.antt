@@ -1,7 +1,7 @@
 -- The promises, from the contracts and the laws.
 use mathlib.Core.Path.{_≡_, sym, ap, _∙_}
 use mathlib.Core.Logic.{inl, inr}
-use mathlib.Core.Bool.{Bool, true, false, _&&_, _||_}
+use mathlib.Core.Bool.{Bool, _&&_, _||_}
 use mathlib.Core.List.{List, [], _∷_}
 use Prim.Native.Nat.{ℕ, _-_, _*_, _/_, _≤_, _<_}
 use native.Mathlib.Omega.{arith}
@@ -21,7 +21,7 @@ use Rattle.model.specs.Answers.{answered, unlessRefused, counted}
 use Rattle.model.specs.Calls.{Planned, wordCountFault, lowest, write, performFaults, performAnswer, performBoard, format}
 use Rattle.model.specs.Cut.{Change, writing, lengthTo, fileOf, calledFrom, called, planFrom, planOf, after, lastArrived}
 use Rattle.model.specs.Claims.{CutSafe, Empty}
-use Rattle.model.proofs.Cases.{either, is-true, and-left, and-right, and-both}
+use Rattle.model.proofs.Cases.{either, is-true, and-left, and-right, and-both, or-left, or-right}
 use Rattle.model.proofs.Addresses.{all-map, all-holds, holds-all}
 use Rattle.model.proofs.Refusals.{not-refused}
 use Rattle.model.proofs.Epochs.{planned-either}
@@ -37,14 +37,6 @@ use Rattle.promises.specs.Promises.{cutAfter, Kept, WritePromise, SetLen
 use Rattle.promises.proofs.Parts.{part-stands, part-named, part-all}
 
 -- ---- Perform, on pairs that are all there and go to the board
-
-or-left : (s t : Bool) → T s → T (s || t)
-or-left true t h = tt
-or-left false t h = absurd h
-
-or-right : (s t : Bool) → T t → T (s || t)
-or-right true t h = tt
-or-right false t h = h
 
 -- what is so of each store is so of each pair that is no barrier
 pairs-all : (p : Store → Bool) (ss : List Store) → T (all p (stores ss)) → T (all (λ s. p s || isBarrier s) ss)
