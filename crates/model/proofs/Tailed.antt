@@ -244,7 +244,7 @@ module _ (W : ℕ) (pos : 0 < W) (b b′ : List ℕ) (top : ℕ) (hook taken : �
   null-changed h n m new c (inr z) = none-taken h 0 0 n m n new _ (λ q. z .1 q c (tailNeed W h n (length new))) (hole-changed W b b′ top h n m n new (z .0))
 
   -- a pointer at a that wasn't live: the hook, or still not live where nothing is written beneath it
-  hooked-becomes : (h w : ℕ) (new : List ℕ) (c m a : ℕ) → length new ≤ m → Stands b′ (hooked W b hook h new c a) → HookShows W hook taken b b′ top h new c → Cover 0 m 0 (length new) (span W h)
+  hooked-becomes : (h w : ℕ) (new : List ℕ) (c m a : ℕ) → length new ≤ m → Stands b′ (hooked hook h new c a) → HookShows W hook taken b b′ top h new c → Cover 0 m 0 (length new) (span W h)
       → Becomes W b b′ top taken h 0 m new c w (getD b′ a 0)
   unfolding hooked All store
   hooked-becomes h w [] c m a fits s shows cover =

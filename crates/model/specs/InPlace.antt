@@ -15,6 +15,12 @@ unfoldable pub atBlock : WalkEnd → Bool
 atBlock Hole = false
 atBlock (Block k) = true
 
+-- the store to a pointer at address a that isn't live, where `new` is written beneath it: `hook h l c` is what a pointer over height h gets that leads to
+-- l of the bytes
+unfoldable pub hooked : (hook : ℕ → ℕ → ℕ → ℕ) (h : ℕ) → List ℕ → ℕ → ℕ → List Store
+hooked hook h [] c a = []
+hooked hook h (x ∷ new) c a = store a (hook h (suc (length new)) c) ∷ []
+
 module _ (W : ℕ) where
   -- how many fresh blocks l bytes take that are written at the end, n, of the tree (h, k, n): none where its blocks are live
   unfoldable pub tailNeed : ℕ → ℕ → ℕ → ℕ
@@ -46,20 +52,13 @@ module _ (W : ℕ) where
     tailWords k n new = joined W (λ j. choose (partLength 8 j n (length new)) [] (store (W * k + j) (dataPage W b k n n new j) ∷ []))
 
     -- The stores to existing words when `new` is written at the end, n, of the tree (h, k, n), whose pointer stands at address a.
-    -- `hook h l c` is what a pointer over height h gets that isn't live and leads to l of the bytes: a tail hooks a fresh subtree,
-    -- a length change 0. They stand *by the first file byte they stand for*. A live hole stays
+    -- A tail hooks a fresh subtree where a pointer isn't live, a length change 0. They stand *by the first file byte they stand for*. A live hole stays
     module _ (hook : ℕ → ℕ → ℕ → ℕ) where
-      -- a pointer that isn't live, where bytes are written beneath it
-      unfoldable pub hooked : ℕ → List ℕ → ℕ → ℕ → List Store
-      hooked h [] c a = []
-      hooked h (x ∷ new) c a = store a (hook h (suc (length new)) c) ∷ []
-
-      -- all of them, left to right
       unfoldable pub inPlace : ℕ → ℕ → ℕ → List ℕ → ℕ → ℕ → List Store
-      inPlace zero k zero new c a = hooked zero new c a
+      inPlace zero k zero new c a = hooked hook zero new c a
       inPlace zero zero (suc n) new c a = []
       inPlace zero (suc k) (suc n) new c a = tailWords (suc k) (suc n) new
-      inPlace (suc h) k zero new c a = hooked (suc h) new c a
+      inPlace (suc h) k zero new c a = hooked hook (suc h) new c a
       inPlace (suc h) zero (suc n) new c a = []
       inPlace (suc h) (suc k) (suc n) new c a = joined W (λ j. inPlace h (cell W b (suc k) j / W) (suc n - j * span W h) (part (span W h) j (suc n) new)
           (c + tailBefore h (suc n) (length new) j) (W * suc k + j))

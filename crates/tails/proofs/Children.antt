@@ -186,7 +186,7 @@ module _ (b : List ℕ) (hook : ℕ → ℕ → ℕ → ℕ) where
   unfolding tailWords choose
   empty-words k n new e = joined-none 8 _ (λ j l. rw (← (length-part 8 j n new), part-none 8 j n new e))
 
-  empty-hook : (h : ℕ) (new : List ℕ) (c a : ℕ) → length new ≡ 0 → hooked 8 b hook h new c a ≡ []
+  empty-hook : (h : ℕ) (new : List ℕ) (c a : ℕ) → length new ≡ 0 → hooked hook h new c a ≡ []
   unfolding hooked
   empty-hook h [] c a e = refl
   empty-hook h (x ∷ new) c a e = absurd (omega arith)
