@@ -26,7 +26,7 @@ use Rattle.model.specs.Cut.{Change, writing, lengthTo, fileOf, calledFro
 use Rattle.model.specs.Claims.{Shaped, CutSafe, Altered, PlanRule, FreshRule, PowerCutRule, AccuracyRule}
 use Rattle.model.specs.Orders.{Order, Promised, OrderRule}
 use Rattle.model.proofs.Cases.{is-true}
-use Rattle.model.proofs.Counting.{occ-first, occ-distinct, member-occ}
+use Rattle.model.proofs.Counting.{occ-distinct, member-occ}
 use Rattle.model.proofs.Perform.{All, all-append, Plain, stores-fenced}
 use Rattle.model.proofs.Addresses.{addresses, all-left, all-right, all-map, all-holds, all-concat}
 use Rattle.model.proofs.Refusals.{not-refused}
@@ -36,7 +36,7 @@ use Rattle.model.proofs.Built.{used, used-first}
 use Rattle.model.proofs.Shown.{count-kept}
 use Rattle.model.proofs.Accepting.{in-range, facts, address-on-board}
 use Rattle.model.proofs.Census.{member-free}
-use Rattle.model.proofs.Supplied.{supply-order, lowest-rule}
+use Rattle.model.proofs.Supplied.{supply-order, lowest-rule, lowest-first}
 use Rattle.model.proofs.HiddenStores.{hidden-in-range}
 use Rattle.model.proofs.Safety.{none-safe, Stays, Settled, settled-one}
 use Rattle.model.proofs.Steps.{committed, length-committed, allCommitted, Reads, SafeSteps, one-step, steps-stores, front, front-last, front-all, performed-steps, steps-rule, steps-whole}
@@ -322,10 +322,10 @@ plan-rule g fit b t c slice = lowest-promised g fit b t c slice .shaped
 
 -- its free blocks taken are the first of them
 pub fresh-rule : FreshRule
-unfolding called planFor lowest
+unfolding called planFor
 fresh-rule g fit b t c slice some k m =
     let n : ℕ = planFor g b c .taken in
-    let same : occ k (tabulate n (lowest g b)) ≡ occ k (take n (free g b)) = occ-first (free g b) k n (member-free g b k (is-true (member k (free g b)) m) .0) in
+    let same : occ k (tabulate n (lowest g b)) ≡ occ k (take n (free g b)) = lowest-first g b k n (member-free g b k (is-true (member k (free g b)) m) .0) in
     let takes = lowest-promised g fit b t c slice .takes some k m in (
       λ y. member-occ k (take n (free g b)) .1 (rw (← same) (member-occ k (tabulate n (lowest g b)) .0 (takes .0 y))),
       λ y. takes .1 (member-occ k (tabulate n (lowest g b)) .1 (rw same (member-occ k (take n (free g b)) .0 y))),

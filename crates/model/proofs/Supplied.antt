@@ -4,9 +4,9 @@ use mathlib.Core.Logic.{_≢_, inl, inr}
 use mathlib.Core.List.{List}
 use Prim.Native.Nat.{ℕ, _+_, _-_, _*_, _/_, _≤_, _<_}
 use native.Mathlib.Omega.{arith}
-use lib.ListN.{length, getD}
+use lib.ListN.{length, getD, take}
 use lib.Dec.{T}
-use Rattle.model.specs.Lists.{member, occ}
+use Rattle.model.specs.Lists.{tabulate, member, occ}
 use Rattle.model.specs.Layout.{Layout, Fits}
 use Rattle.model.specs.Tree.{cell}
 use Rattle.model.specs.Board.{blockCount, liveBlocks, free}
@@ -16,6 +16,7 @@ use Rattle.model.specs.Fresh.{Page, stored}
 use Rattle.model.specs.Calls.{lowest}
 use Rattle.model.specs.Orders.{Order, LowestRule}
 use Rattle.model.proofs.Cases.{split, is-true}
+use Rattle.model.proofs.Counting.{occ-first}
 use Rattle.model.proofs.Perform.{All, performed-away, address-block, stored-blocks}
 use Rattle.model.proofs.Addresses.{all-map, addresses, used-none, used-once, stored-once}
 use Rattle.model.proofs.Built.{used}
@@ -46,6 +47,11 @@ lowest-rule g b = record {
   among = λ i l. rw (free-member g b (getD (free g b) i 0) (free-at g b i l)) tt;
   apart = λ i j u v e. omega (arith, free-rises g b i j u v);
 }
+
+-- and those taken are the first of the free blocks
+pub lowest-first : (g : Layout) (b : List ℕ) (k n : ℕ) → 0 < k → occ k (tabulate n (lowest g b)) ≡ occ k (take n (free g b))
+unfolding lowest
+lowest-first g b k n pos = occ-first (free g b) k n pos
 
 module _ (g : Layout) (b : List ℕ) (fresh : ℕ → ℕ) (c lim : ℕ) (ok : Supply g b fresh c lim) where
   -- a live block is none of them
