@@ -2,10 +2,10 @@
 use mathlib.Core.Path.{_≡_, sym, ap, _∙_}
 use Prim.Native.Nat.{ℕ, zero, suc, _<_, _^_}
 use native.Mathlib.Omega.{arith}
-use lib.IntN.{pos, negℤ, _-ℤ_, +ℤ-idl}
+use lib.IntN.{pos, negℤ}
 use mir.Syntax.{w64}
-use mir.Val.{SFits, toZ, ofZ}
-use mir.Facts.{toZ-pos, toZ-ofZ}
+use mir.Val.{SFits, toZ}
+use mir.Facts.{toZ-pos}
 use Rattle.model.specs.declared.Fault.{Fault}
 use Rattle.model.specs.declared.Fault.the-variants.{WordCount, Trailer, Damaged, FileNumber, End, FreeBlocks, PlanLength, PairCount, Address}
 use Rattle.model.specs.declared.Answer.{Answer}
@@ -24,10 +24,7 @@ number-small PlanLength = omega arith
 number-small PairCount = omega arith
 number-small Address = omega arith
 
-negated : (n : ℕ) → n < 2 ^ 63 → pos 0 -ℤ toZ w64 n ≡ negℤ (pos n)
-negated n h = rw (toZ-pos w64 h) (+ℤ-idl (negℤ (pos n)))
-
-negated-fits : (n : ℕ) → n < 2 ^ 63 → SFits w64 (negℤ (pos n))
+pub negated-fits : (n : ℕ) → n < 2 ^ 63 → SFits w64 (negℤ (pos n))
 negated-fits zero h = record { sfits = omega arith }
 negated-fits (suc n) h = record { sfits = omega arith }
 
@@ -43,15 +40,9 @@ module _ {answer : Answer} {n : ℕ} (small : counted answer < 2 ^ 63) (e : answ
 
 -- and one that is a refusal
 module _ {n : ℕ} (f : Fault) (is : n ≡ number f) where
-  small : n < 2 ^ 63
-  small = rw is (number-small f)
+  pub refused-small : n < 2 ^ 63
+  refused-small = rw is (number-small f)
 
-  pub refused-fits : SFits w64 (pos n)
-  refused-fits = record { sfits = small }
-
-  pub refused-negated : SFits w64 (pos 0 -ℤ toZ w64 n)
-  refused-negated = rw (negated n small) (negated-fits n small)
-
-  pub refused-signed : {answer : Answer} → answer ≡ Refused f → toZ w64 (ofZ w64 (pos 0 -ℤ toZ w64 n)) ≡ signed answer
+  pub refused-signed : {answer : Answer} → answer ≡ Refused f → negℤ (pos n) ≡ signed answer
   unfolding signed
-  refused-signed e = toZ-ofZ refused-negated ∙ negated n small ∙ ap (λ (m : ℕ). negℤ (pos m)) is ∙ sym (ap signed e)
+  refused-signed e = ap (λ (m : ℕ). negℤ (pos m)) is ∙ sym (ap signed e)

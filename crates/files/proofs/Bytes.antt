@@ -3,12 +3,15 @@ use mathlib.Core.Path.{_≡_, _∙_}
 use mathlib.Core.List.{List}
 use Prim.Native.Nat.{ℕ, _+_, _-_, _*_, _/_, _%_, _≤_, _<_, min}
 use native.Mathlib.Omega.{arith}
+use lib.ListN.{length, take, drop}
+use borrow.Rule.Slice.PartMut.{putMid}
 use Rattle.model.specs.declared.WalkEnd.the-variants.{Block, Hole}
 use Rattle.model.specs.Words.{byteOf}
 use Rattle.model.specs.Tree.{cell, shown}
 use Rattle.model.specs.Board.{rootWalk}
 use Rattle.model.proofs.Walks.{root-walk-same}
 use Rattle.words.specs.Filled.{Filled}
+use Rattle.words.proofs.Filling
 use Rattle.files.specs.Filling.{fileByte}
 
 -- byte `from + j` of block k, where its word is x
@@ -57,3 +60,8 @@ pieces b root n o done len l j h =
     let d : (o + done + j) / 64 ≡ (o + done) / 64 = omega arith in
     let m : (o + done + j) % 64 ≡ (o + done) % 64 + j = omega arith in
     rw (q, m, root-walk-same 8 (omega arith) b root n (o + done + j) (o + done) d)
+
+-- and it is placed at k, where the last one ended
+pub placed : {f g : ℕ → ℕ} {j k m : ℕ} {out out′ P : List ℕ} → Filled f j out out′ → k ≡ j → j ≤ length out → ((i : ℕ) → i < m → g i ≡ f (j + i))
+    → Filled g m (take (length out′ - k) (drop k out′)) P → Filled f (j + m) out (putMid k (length out′ - k) out′ P)
+placed c e l same d = rw e (Filling.lent c l same (rw e at d))

@@ -3,12 +3,11 @@ use mathlib.Core.Path.{_≡_, refl}
 use Prim.Native.Nat.{_+_, _-_, _≤_}
 use native.Mathlib.Nat.{lt-of-le-of-lt}
 use native.Mathlib.Omega.{arith}
-use lib.ListN.{length, length-drop}
-use borrow.Rule.Slice.PartAt.{part-to-end}
+use lib.ListN.{length}
 use Rattle.words.specs.Filled.{Filled}
 use Rattle.words.proofs.Filling
 use Rattle.files.specs.Filling.{fileByte}
-use Rattle.files.proofs.Bytes.{Piece, piece, pieces, less}
+use Rattle.files.proofs.Bytes.{Piece, piece, pieces, placed, less}
 use Rattle.files.proofs.fill.Statement.{statement}
 use Rattle.files.proofs.fill.Tie as tie
 
@@ -45,7 +44,7 @@ copy-requires c κs = let l = c .before .before .before .before in
     let p = part (c .before .before) in
     let r = room l in
     let z = l .loop .inv .1 in
-    (rw (part-to-end (l .loop .out) (l .loop .done), length-drop) (omega arith), omega arith)
+    (omega (arith, c .copy-arg .given .1), omega arith)
 
 add-done : tie.Need-add-done Inv-loop μ-loop
 add-done c = let f = c .before .before .before .before .before in record { fits = lt-of-le-of-lt (part f .wanted) (f .before .before .before .least .ok) }
@@ -58,7 +57,7 @@ loop-again c = let w = c .before .before .before .before in let f = w .before in
     let p = part f in
     let r = room l in
     let same = pieces (a .board .now) (a .root) (a .n) (a .o) (l .loop .done) (f .least2 .result) (p .inside) in
-    let next = Filling.lent (l .loop .inv .2) (omega arith) (rw (w .root-walk .ensures) same) (c .before .before .copy .ensures) in
+    let next = placed (l .loop .inv .2) (omega arith) (omega arith) (rw (w .root-walk .ensures) same) (c .before .before .copy .ensures) in
     (p .wanted, Filling.same-length next (omega arith), next)
 
 returns-2 : tie.Need-returns-2 Inv-loop μ-loop

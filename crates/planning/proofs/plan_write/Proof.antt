@@ -1,5 +1,6 @@
 use mathlib.Core.Path.{_≡_}
 use Prim.Native.Nat.{_+_}
+use native.Mathlib.Omega.{arith}
 use lib.ListN.{length}
 use borrow.Author.Needs.{needs}
 use Rattle.model.specs.declared.WalkEnd.{WalkEnd}
@@ -30,15 +31,15 @@ returns-2 : tie.Need-returns-2
 returns-2 c =
     let p = c .before .before in
     let i = p .before .before in
-    Writes.as-grown (i .before .before .before .before .before .before .before .before .pre) (Writes.two-words _ _ _ _ (i .if2 .taken)) (p .plan-grown2 .ensures)
+    Writes.as-grown (i .before .before .before .before .before .before .before .before .pre) (Writes.two-words _ _ _ _ (omega (arith, i .if2 .taken))) (p .plan-grown2 .ensures)
 
--- the bytes are in one word, and the walk to it tells
+-- the bytes are in one word, and the walk to it tells; of a wrong test omega says where it fails
 one-word : (c : tie.After-root-walk) {v : WalkEnd} → c .root-walk .result ≡ v → let a = c .before .before .before .before .before .before .before .before .before .before .args in
     singleBlock house (a .board .now) (a .file) (a .o) (a .o + length (a .new .now)) ≡ v
 one-word c e =
     let i = c .before .before in
     let w = i .before .before in
-    Writes.one-word (w .before .root-address .ensures) (w .word .ensures) _ _ (i .before .if1 .left) (i .if2 .left) (c .before .word2 .ensures) (c .root-walk .ensures) e
+    Writes.one-word (w .before .root-address .ensures) (w .word .ensures) _ _ (i .before .if1 .left) (omega (arith, i .if2 .left)) (c .before .word2 .ensures) (c .root-walk .ensures) e
 
 returns-3 : tie.Need-returns-3
 returns-3 c =
