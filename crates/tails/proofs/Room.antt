@@ -32,7 +32,7 @@ module _ (b : List ℕ) (hook : ℕ → ℕ → ℕ → ℕ) where
     eight (λ j. length (choose (partLength 8 j n (length new)) [] (store (8 * k + j) (dataPage 8 b k n n new j) ∷ []))) 1 (λ j. at-most-one (partLength 8 j n (length new)) (store (8 * k + j) (dataPage 8 b k n n new j))),
   )
 
-  hooked-most : (h : ℕ) (new : List ℕ) (c a : ℕ) → length (hooked 8 b hook h new c a) ≤ 1
+  hooked-most : (h : ℕ) (new : List ℕ) (c a : ℕ) → length (hooked hook h new c a) ≤ 1
   unfolding hooked
   hooked-most h [] c a = omega arith
   hooked-most h (x ∷ new) c a = omega arith
