@@ -10,7 +10,7 @@ use lib.ListN.{length, set}
 use lib.Dec.{T, eqb}
 use borrow.Author.Tests.{eq-eqb, ne-eqb}
 use Rattle.model.specs.Lists.{occ}
-use Rattle.model.specs.Layout.{Layout, Fits, files}
+use Rattle.model.specs.Layout.{Layout, Fits}
 use Rattle.model.specs.Board.{contents, accepted, liveBlocks}
 use Rattle.model.specs.Store.{Store, performed}
 use Rattle.model.specs.Hidden.{hidden}

@@ -12,7 +12,7 @@ use borrow.Author.Tests.{eq-eqb, ne-eqb}
 use Rattle.model.specs.Lists.{one, occ}
 use Rattle.model.specs.Layout.{Layout, Fits, files}
 use Rattle.model.specs.Tree.{span, cell}
-use Rattle.model.specs.Board.{rootBlocks, greatest, blockCount, trailer, inodeBlock, inodePointer, leaf, rootAddress, sizeAddress, root, size, fileBlocks, liveBlocks, inRange, leafSound, accepted}
+use Rattle.model.specs.Board.{rootBlocks, blockCount, trailer, inodeBlock, inodePointer, leaf, rootAddress, sizeAddress, root, size, fileBlocks, liveBlocks, inRange, leafSound}
 use Rattle.model.specs.Store.{Store, store, performed}
 use Rattle.model.specs.Plan.{Step, step}
 use Rattle.model.specs.Fresh.{Page, freshNeed, stored, build}
@@ -20,7 +20,7 @@ use Rattle.model.specs.Change.{replaced, copiedLeaf, leafPage}
 use Rattle.model.proofs.Cases.{decide, and-both}
 use Rattle.model.proofs.Perform.{All, address-block, address-place}
 use Rattle.model.proofs.Agree.{agree, frame, cell-away}
-use Rattle.model.proofs.Splice.{Small, Reach, past-span}
+use Rattle.model.proofs.Splice.{Reach, past-span}
 use Rattle.model.specs.GivenUp.{pathBlocks}
 use Rattle.model.proofs.Paths.{touched-new}
 use Rattle.model.proofs.Changed.{Changed}
@@ -33,6 +33,7 @@ use Rattle.model.proofs.Supplied.{Supply, supply-once, stored-keeps}
 use Rattle.model.proofs.Steps.{committed}
 use Rattle.model.proofs.GoodSteps.{GoodTurn, pages-hidden, pages-once, pages-same, pages-held}
 use Rattle.model.proofs.Taking.{Takes}
+use Rattle.model.proofs.Writing.{FileOn, Writing}
 
 -- ---- The step
 
@@ -97,11 +98,12 @@ size-word g b f = ap (λ (x : ℕ). getD b x 0) (add-assoc (g .words * leaf g b 
 
 -- ---- The step is good
 
-module _ (g : Layout) (fit : Fits g) (b : List ℕ) (t : T (accepted g b)) (f : ℕ) (f-lt : f < files g) (o : ℕ) (new : List ℕ) (some : 0 < length new) (small : Small new)
-    (live : 0 < size g b f) (beyond : size g b f < o + length new) (under : o + length new ≤ span (g .words) (root g b f % g .words))
-    (most : o + length new ≤ greatest g) (fresh : ℕ → ℕ) (c lim : ℕ) (supply : Supply g b fresh c lim) (room : c + length (treePages g fresh b f o new c) + 1 ≤ lim) where
+module _ {g : Layout} {b : List ℕ} {f o : ℕ} {new : List ℕ} (w : Writing g b f o new) (some : 0 < length new) (live : 0 < size g b f) (beyond : size g b f < o + length new)
+    (under : o + length new ≤ span (g .words) (root g b f % g .words)) {fresh : ℕ → ℕ} {c lim : ℕ} (supply : Supply g b fresh c lim) (room : c + length (treePages g fresh b f o new c) + 1 ≤ lim) where
+  open FileOn (w .on) using (fit, board, file)
+
   ok : Facts g b
-  ok = facts g fit b t
+  ok = facts g fit b board
 
   pos : 0 < g .words
   pos = words-pos g fit
@@ -136,7 +138,7 @@ module _ (g : Layout) (fit : Fits g) (b : List ℕ) (t : T (accepted g b)) (f : 
   ss = stored (g .words) fresh pages c
 
   l₀-lt : l₀ < g .leaves
-  l₀-lt = leaf-of g fit f f-lt
+  l₀-lt = leaf-of g fit f file
 
   pages-room : c + length pages ≤ lim
   pages-room = omega (arith, length-append ps (copy ∷ []))
@@ -150,7 +152,7 @@ module _ (g : Layout) (fit : Fits g) (b : List ℕ) (t : T (accepted g b)) (f : 
 
   shown-same : Same g b c₁
   unfolding c₁
-  shown-same = pages-same g fit b t fresh c lim supply pages pages-room
+  shown-same = pages-same g fit b board fresh c lim supply pages pages-room
 
   len : length b ≡ length b₂
   unfolding b₂
@@ -210,13 +212,13 @@ module _ (g : Layout) (fit : Fits g) (b : List ℕ) (t : T (accepted g b)) (f : 
   leaves-sound : (l : ℕ) → l < g .leaves → T (leafSound g b₂ l)
   leaves-sound l u = elim (decide l l₀) [
     | inl e ↦ rw e leaf-new-sound
-    | inr d ↦ rw (← (leaf-sound-kept g b b₂ len l (pointer-stays l u d))) (accepted-parts g b t .leaves l u)
+    | inr d ↦ rw (← (leaf-sound-kept g b b₂ len l (pointer-stays l u d))) (accepted-parts g b board .leaves l u)
   ]
 
   -- the fresh blocks
   all-held : held (g .words) fresh b₂ pages c
   unfolding b₂ c₁
-  all-held = pages-held g fit b t fresh c lim supply pages pages-room a (g .words * copied) (rw commit-block (inode-live g b))
+  all-held = pages-held g fit b board fresh c lim supply pages pages-room a (g .words * copied) (rw commit-block (inode-live g b))
 
   tree-held : held (g .words) fresh b₂ ps c
   tree-held = held-left (g .words) pos b fresh b₂ ps (copy ∷ []) c all-held
@@ -235,7 +237,7 @@ module _ (g : Layout) (fit : Fits g) (b : List ℕ) (t : T (accepted g b)) (f : 
   -- two files of one leaf have different words there
   slots-apart : (i d e : ℕ) → i < files g → i ≢ f → i / g .inodes ≡ l₀ → d ≤ 1 → e ≤ 1 → 2 * (i % g .inodes) + d ≢ 2 * (f % g .inodes) + e
   unfolding rootAddress
-  slots-apart i d e u ne same v w x = inodes-apart g fit b ok i f d e u f-lt ne v w (omega (arith, ap (λ (y : ℕ). g .words * leaf g b y) same))
+  slots-apart i d e u ne same v w x = inodes-apart g fit b ok i f d e u file ne v w (omega (arith, ap (λ (y : ℕ). g .words * leaf g b y) same))
 
   inode-stays : (i : ℕ) → i < files g → i ≢ f → (d : ℕ) → d ≤ 1
       → cell (g .words) b (leaf g b (i / g .inodes)) (2 * (i % g .inodes) + d) ≡ cell (g .words) b₂ (leaf g b₂ (i / g .inodes)) (2 * (i % g .inodes) + d)
@@ -274,14 +276,14 @@ module _ (g : Layout) (fit : Fits g) (b : List ℕ) (t : T (accepted g b)) (f : 
       rw block-new (subst
       (λ (x : ℕ). Changed (g .words) b b₂ (blockCount g b - 1) (root g b f % g .words) (root g b f / g .words) (fresh (c + x - 1)) (size g b f) m o new (λ q. used fresh q c x) (λ q. occ q path)) count
       (build-changed (g .words) pos b fresh b₂ lim (supply .nonzero) (blockCount g b - 1) (supply .below) (root g b f % g .words) (root g b f / g .words) (size g b f) o new c m
-      (touched-new (g .words) (root g b f % g .words) (root g b f / g .words) (size g b f) o (length new) some) (omega (arith, count)) small tree-held (tree-stays f f-lt) (omega arith) (omega arith) (λ u. omega arith) reach))
+      (touched-new (g .words) (root g b f % g .words) (root g b f / g .words) (size g b f) o (length new) some) (omega (arith, count)) (w .small) tree-held (tree-stays f file) (omega arith) (omega arith) (λ u. omega arith) reach))
 
   written : Written g fit b b₂ len f (root g b f % g .words) (root g b f / g .words) o m new (λ q. used fresh q c (length ps)) (λ q. occ q path)
   written = record {
     old = λ z. (refl, refl);
     height = height-new;
     now = size-new;
-    low = ok .low f f-lt live;
+    low = ok .low f file live;
     most = omega arith;
     past = past-span o new (span (g .words) (root g b f % g .words)) m under;
     change = changed;
@@ -290,13 +292,13 @@ module _ (g : Layout) (fit : Fits g) (b : List ℕ) (t : T (accepted g b)) (f : 
   moved : OneFile g b b₂ f (spliced g b f o new m) (λ q. one q copied) (λ q. one q (leaf g b l₀)) (λ q. used fresh q c (length ps)) (λ q. occ q path)
   moved = record {
     lengths = len;
-    trailers = rw (← (trailer-kept g b b₂ len fit trailers)) (accepted-parts g b t .trailers);
+    trailers = rw (← (trailer-kept g b b₂ len fit trailers)) (accepted-parts g b board .trailers);
     inode = inode;
     leaves = leaves-sound;
     leaves-stay = leaf-stays;
     leaf-moved = λ q. omega (arith, ap (one q) leaf-new);
     others = others;
-    file = written-commit g fit b b₂ len f (root g b f % g .words) (root g b f / g .words) o m new (λ q. used fresh q c (length ps)) (λ q. occ q path) written (ok .tree f f-lt);
+    file = written-commit g fit b b₂ len f (root g b f % g .words) (root g b f / g .words) o m new (λ q. used fresh q c (length ps)) (λ q. occ q path) written (ok .tree f file);
     spare = λ q. omega (arith, supply-once g b fresh c lim supply (ok .once) (length ps + 1) (omega arith) q, used-add fresh q c (length ps) 1, used-one fresh q (c + length ps));
   }
 
@@ -304,7 +306,7 @@ module _ (g : Layout) (fit : Fits g) (b : List ℕ) (t : T (accepted g b)) (f : 
   unfolding occ
   leaf-lives q = omega (
     arith,
-    one-file-counts g fit b b₂ f (spliced g b f o new m) (λ q. one q copied) (λ q. one q (leaf g b l₀)) (λ q. used fresh q c (length ps)) (λ q. occ q path) moved t f-lt q,
+    one-file-counts g fit b b₂ f (spliced g b f o new m) (λ q. one q copied) (λ q. one q (leaf g b l₀)) (λ q. used fresh q c (length ps)) (λ q. occ q path) moved board file q,
     used-add fresh q c (length ps) 1,
     used-one fresh q (c + length ps),
   )
@@ -314,10 +316,10 @@ module _ (g : Layout) (fit : Fits g) (b : List ℕ) (t : T (accepted g b)) (f : 
   unfolding step store committed b₂ c₁
   leaf-good = record {
     good = record {
-      hides = pages-hidden g fit b t fresh c lim supply pages pages-room;
-      once = pages-once g fit b t fresh c lim supply pages pages-room;
+      hides = pages-hidden g fit b board fresh c lim supply pages pages-room;
+      once = pages-once g fit b board fresh c lim supply pages pages-room;
       within = rw commit-block (ok .inode);
-      outcome = one-file g fit b b₂ f (spliced g b f o new m) (λ q. one q copied) (λ q. one q (leaf g b l₀)) (λ q. used fresh q c (length ps)) (λ q. occ q path) moved t;
+      outcome = one-file g fit b b₂ f (spliced g b f o new m) (λ q. one q copied) (λ q. one q (leaf g b l₀)) (λ q. used fresh q c (length ps)) (λ q. occ q path) moved board;
     };
     lives = leaf-lives;
   }
