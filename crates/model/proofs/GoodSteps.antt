@@ -119,12 +119,12 @@ module _ (g : Layout) (fit : Fits g) (b : List ℕ) (t : T (accepted g b)) (ss :
       (λ s h. address-on-board g fit b (facts g fit b t .sizes) (s .at) (omega (arith, hidden-in-range g fit b t s h .1))) ss hides)
 
 -- of pages stored to fresh blocks
-module _ (g : Layout) (fit : Fits g) (b : List ℕ) (t : T (accepted g b)) (fresh : ℕ → ℕ) (c lim : ℕ) (supply : Supply g b fresh c lim) (ps : List Page) (room : c + length ps ≤ lim) where
+module _ {g : Layout} (fit : Fits g) {b : List ℕ} (t : T (accepted g b)) {fresh : ℕ → ℕ} {c lim : ℕ} (supply : Supply g b fresh c lim) (ps : List Page) (room : c + length ps ≤ lim) where
   pub pages-hidden : All (λ s. T (hidden g b s)) (stored (g .words) fresh ps c)
-  pages-hidden = stored-hidden g b fresh c lim supply fit ps room
+  pages-hidden = stored-hidden supply fit ps room
 
   pub pages-once : (x : ℕ) → occ x (addresses (stored (g .words) fresh ps c)) ≤ 1
-  pages-once = stored-apart g b fresh c lim supply ps room
+  pages-once = stored-apart supply ps room
 
   pub pages-same : Same g b (performed b (stored (g .words) fresh ps c))
   pages-same = epoch-same g fit b t (stored (g .words) fresh ps c) pages-hidden
@@ -134,4 +134,4 @@ module _ (g : Layout) (fit : Fits g) (b : List ℕ) (t : T (accepted g b)) (fres
   pages-held a v live =
       let ss : List Store = stored (g .words) fresh ps c in
       held-of-all (g .words) fresh (set (performed b ss) a v) ps c
-      (stands-set (performed b ss) ss a v (stored-not-live g b fresh c lim supply ps room a live) (epoch-stands g fit b t ss pages-hidden pages-once))
+      (stands-set (performed b ss) ss a v (stored-not-live supply ps room a live) (epoch-stands g fit b t ss pages-hidden pages-once))

@@ -133,7 +133,7 @@ module _ {g : Layout} {b : List ℕ} {f e : ℕ} (w : Growing g b f e) {fresh : 
 
     shown-same : Same g b c₁
     unfolding c₁
-    shown-same = pages-same g fit b board fresh 0 lim supply ps fits
+    shown-same = pages-same fit board supply ps fits
 
     value : ℕ
     value = grownRoot g fresh b f h
@@ -153,7 +153,7 @@ module _ {g : Layout} {b : List ℕ} {f e : ℕ} (w : Growing g b f e) {fresh : 
 
     held-done : held (g .words) fresh done ps 0
     unfolding done c₁
-    held-done = pages-held g fit b board fresh 0 lim supply ps fits (rootAddress g b f) value (spot-live g fit b ok f file (rootAddress g b f) lent-spot)
+    held-done = pages-held fit board supply ps fits (rootAddress g b f) value (spot-live g fit b ok f file (rootAddress g b f) lent-spot)
 
     root-done : root g done f ≡ value
     unfolding done
@@ -195,13 +195,13 @@ module _ {g : Layout} {b : List ℕ} {f e : ℕ} (w : Growing g b f e) {fresh : 
     file-grown = grown-commit g fit b done len f h (λ q. used fresh q 0 (length ps)) (w .live) size-done height-done low-enough tree-grown (accepted-parts g b board .files-sound f file)
 
     met-once : (q : ℕ) → occ q (liveBlocks g b) + used fresh q 0 (length ps) ≤ 1
-    met-once = supply-once g b fresh 0 lim supply (ok .once) (length ps) fits
+    met-once = supply-once supply (ok .once) (length ps) fits
 
     pub growth-good : GoodStep g b f (growthStep g fresh b f h) (contents g b f)
     unfolding step store committed done c₁ value
     growth-good = record {
-      hides = pages-hidden g fit b board fresh 0 lim supply ps fits;
-      once = pages-once g fit b board fresh 0 lim supply ps fits;
+      hides = pages-hidden fit board supply ps fits;
+      once = pages-once fit board supply ps fits;
       within = spot-ranged g fit b ok f file (rootAddress g b f) lent-spot;
       outcome = spot-commit g fit b c₁ board shown-same f file (rootAddress g b f) value commit-spot (contents g b f) (λ q. used fresh q 0 (length ps)) (λ q. 0) file-grown met-once;
     }

@@ -141,7 +141,7 @@ module _ {g : Layout} {b : List ℕ} {f o : ℕ} {new : List ℕ} (w : Writing g
 
       shown-same : Same g b c₁
       unfolding c₁
-      shown-same = pages-same g fit b board fresh c lim supply (sh .pages) room
+      shown-same = pages-same fit board supply (sh .pages) room
 
       value : ℕ
       value = g .words * top + low
@@ -177,7 +177,7 @@ module _ {g : Layout} {b : List ℕ} {f o : ℕ} {new : List ℕ} (w : Writing g
 
       words-stay : (q : ℕ) → 0 < occ q (fileBlocks g b f) → (j : ℕ) → j < g .words → g .words * q + j ≢ sh .at → cell (g .words) b q j ≡ cell (g .words) done q j
       unfolding done c₁ cell
-      words-stay q live j l d = stored-keeps g b fresh c lim supply (sh .pages) room q (omega (arith, file-live g b f q file)) j l ∙ sym (getD-set-other c₁ (sh .at) (g .words * q + j) value 0 d)
+      words-stay q live j l d = stored-keeps supply (sh .pages) room q (omega (arith, file-live g b f q file)) j l ∙ sym (getD-set-other c₁ (sh .at) (g .words * q + j) value 0 d)
 
       root-hit : sh .at ≡ rootAddress g b f → root g done f ≡ value
       unfolding done
@@ -224,7 +224,7 @@ module _ {g : Layout} {b : List ℕ} {f o : ℕ} {new : List ℕ} (w : Writing g
         within = omega arith;
         under = omega arith;
         outside = rw (root-block g fit b f) (leaf-not-file g b (ok .once) (f / g .inodes) f (leaf-of g fit f file) file);
-        holds = pages-held g fit b board fresh c lim supply (sh .pages) room (sh .at) value inside-live;
+        holds = pages-held fit board supply (sh .pages) room (sh .at) value inside-live;
         room = room;
         value = ap (λ (x : ℕ). x / g .words) commits ∙ committed-block;
         low = λ d. ap (λ (x : ℕ). x % g .words) commits ∙ committed-low ∙ low-zero d;
@@ -254,11 +254,11 @@ module _ {g : Layout} {b : List ℕ} {f o : ℕ} {new : List ℕ} (w : Writing g
       pub inside-good : GoodTurn g b f (step ss (sh .at) (g .words * top + low)) (spliced g b f o new (size g b f)) (λ q. used fresh q c (length (sh .pages))) (λ q. occ q given)
       unfolding step store committed done c₁ value
       inside-good =
-          let once : (q : ℕ) → occ q (liveBlocks g b) + used fresh q c (length (sh .pages)) ≤ 1 = supply-once g b fresh c lim supply (ok .once) (length (sh .pages)) room in
+          let once : (q : ℕ) → occ q (liveBlocks g b) + used fresh q c (length (sh .pages)) ≤ 1 = supply-once supply (ok .once) (length (sh .pages)) room in
           record {
             good = record {
-              hides = pages-hidden g fit b board fresh c lim supply (sh .pages) room;
-              once = pages-once g fit b board fresh c lim supply (sh .pages) room;
+              hides = pages-hidden fit board supply (sh .pages) room;
+              once = pages-once fit board supply (sh .pages) room;
               within = spot-ranged g fit b ok f file (sh .at) lent-spot;
               outcome = spot-commit g fit b c₁ board shown-same f file (sh .at) value commit-spot (spliced g b f o new (size g b f)) (λ q. used fresh q c (length (sh .pages))) (λ q. occ q given) inside-file once;
             };

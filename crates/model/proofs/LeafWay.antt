@@ -152,7 +152,7 @@ module _ {g : Layout} {b : List ℕ} {f o : ℕ} {new : List ℕ} (w : Writing g
 
   shown-same : Same g b c₁
   unfolding c₁
-  shown-same = pages-same g fit b board fresh c lim supply pages pages-room
+  shown-same = pages-same fit board supply pages pages-room
 
   len : length b ≡ length b₂
   unfolding b₂
@@ -164,7 +164,7 @@ module _ {g : Layout} {b : List ℕ} {f o : ℕ} {new : List ℕ} (w : Writing g
   -- live blocks other than the inode pointer block stay
   live-stays : (q : ℕ) → 0 < occ q (liveBlocks g b) → q ≢ inodeBlock g b → (j : ℕ) → j < g .words → cell (g .words) b q j ≡ cell (g .words) b₂ q j
   unfolding b₂ c₁
-  live-stays q z d j l = stored-keeps g b fresh c lim supply pages pages-room q z j l ∙ sym (cell-away (g .words) pos c₁ a (g .words * copied) q j l (λ x. d (x ∙ commit-block)))
+  live-stays q z d j l = stored-keeps supply pages pages-room q z j l ∙ sym (cell-away (g .words) pos c₁ a (g .words * copied) q j l (λ x. d (x ∙ commit-block)))
 
   tree-stays : (i : ℕ) → i < files g → agree (g .words) b b₂ (root g b i % g .words) (root g b i / g .words) (size g b i)
   unfolding fileBlocks rootBlocks
@@ -185,7 +185,7 @@ module _ {g : Layout} {b : List ℕ} {f o : ℕ} {new : List ℕ} (w : Writing g
   pointer-stays : (l : ℕ) → l < g .leaves → l ≢ l₀ → inodePointer g b l ≡ inodePointer g b₂ l
   unfolding inodePointer cell b₂ c₁
   pointer-stays l u d =
-      stored-keeps g b fresh c lim supply pages pages-room (inodeBlock g b) (inode-live g b) l (omega (arith, fit .leaves-fit))
+      stored-keeps supply pages pages-room (inodeBlock g b) (inode-live g b) l (omega (arith, fit .leaves-fit))
       ∙ sym (getD-set-other c₁ a (g .words * inodeBlock g b + l) (g .words * copied) 0 (λ x. d (omega arith)))
       ∙ ap (λ (x : ℕ). getD b₂ (g .words * x + l) 0) inode
 
@@ -218,7 +218,7 @@ module _ {g : Layout} {b : List ℕ} {f o : ℕ} {new : List ℕ} (w : Writing g
   -- the fresh blocks
   all-held : held (g .words) fresh b₂ pages c
   unfolding b₂ c₁
-  all-held = pages-held g fit b board fresh c lim supply pages pages-room a (g .words * copied) (rw commit-block (inode-live g b))
+  all-held = pages-held fit board supply pages pages-room a (g .words * copied) (rw commit-block (inode-live g b))
 
   tree-held : held (g .words) fresh b₂ ps c
   tree-held = held-left (g .words) pos b fresh b₂ ps (copy ∷ []) c all-held
@@ -299,7 +299,7 @@ module _ {g : Layout} {b : List ℕ} {f o : ℕ} {new : List ℕ} (w : Writing g
     leaf-moved = λ q. omega (arith, ap (one q) leaf-new);
     others = others;
     file = written-commit g fit b b₂ len f (root g b f % g .words) (root g b f / g .words) o m new (λ q. used fresh q c (length ps)) (λ q. occ q path) written (ok .tree f file);
-    spare = λ q. omega (arith, supply-once g b fresh c lim supply (ok .once) (length ps + 1) (omega arith) q, used-add fresh q c (length ps) 1, used-one fresh q (c + length ps));
+    spare = λ q. omega (arith, supply-once supply (ok .once) (length ps + 1) (omega arith) q, used-add fresh q c (length ps) 1, used-one fresh q (c + length ps));
   }
 
   leaf-lives : (q : ℕ) → occ q (liveBlocks g b₂) + occ q (leaf g b l₀ ∷ path) ≡ occ q (liveBlocks g b) + used fresh q c (length ps + 1)
@@ -316,8 +316,8 @@ module _ {g : Layout} {b : List ℕ} {f o : ℕ} {new : List ℕ} (w : Writing g
   unfolding step store committed b₂ c₁
   leaf-good = record {
     good = record {
-      hides = pages-hidden g fit b board fresh c lim supply pages pages-room;
-      once = pages-once g fit b board fresh c lim supply pages pages-room;
+      hides = pages-hidden fit board supply pages pages-room;
+      once = pages-once fit board supply pages pages-room;
       within = rw commit-block (ok .inode);
       outcome = one-file g fit b b₂ f (spliced g b f o new m) (λ q. one q copied) (λ q. one q (leaf g b l₀)) (λ q. used fresh q c (length ps)) (λ q. occ q path) moved board;
     };

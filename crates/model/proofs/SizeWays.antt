@@ -271,7 +271,7 @@ module _ {g : Layout} {b : List ℕ} {f : ℕ} (on : FileOn g b f) where
       taken = length-tail (g .words) pos b fresh (root g b f % g .words) (root g b f / g .words) (size g b f) new c
 
       tail-hidden : All (λ s. T (hidden g b s)) tail-epoch
-      tail-hidden = all-append (λ s. T (hidden g b s)) (stored (g .words) fresh tails c) others (stored-hidden g b fresh c lim supply fit tails room)
+      tail-hidden = all-append (λ s. T (hidden g b s)) (stored (g .words) fresh tails c) others (stored-hidden supply fit tails room)
           (in-tree-hidden (λ h l i. freshPointer (g .words) fresh h 0 l i) new c live (w .small))
 
       tail-once : (x : ℕ) → occ x (addresses tail-epoch) ≤ 1
@@ -280,7 +280,7 @@ module _ {g : Layout} {b : List ℕ} {f : ℕ} (on : FileOn g b f) where
         occ-addresses-append x (stored (g .words) fresh tails c) others,
         stored-once (g .words) fresh tails c x,
         in-tree-once (λ h l i. freshPointer (g .words) fresh h 0 l i) new c live x,
-        supply-once g b fresh c lim supply (ok .once) (length tails) room (x / g .words),
+        supply-once supply (ok .once) (length tails) room (x / g .words),
       )
 
       tail-root : root g b f ≡ root g (performed b tail-epoch) f
@@ -311,7 +311,7 @@ module _ {g : Layout} {b : List ℕ} {f : ℕ} (on : FileOn g b f) where
                 }) (w .small) (rw (← taken) room)
                 (held-of-all (g .words) fresh (performed b tail-epoch) tails c (all-left Stood (stored (g .words) fresh tails c) others all-stand)) path);
             fine = ok .tree f file;
-            spare = λ q. rw (← taken) (supply-once g b fresh c lim supply (ok .once) (length tails) room q);
+            spare = λ q. rw (← taken) (supply-once supply (ok .once) (length tails) room q);
           })
 
   -- s = 0: *the old root is ignored and the least sufficient height is used*, wherever the bytes begin
@@ -334,7 +334,7 @@ module _ {g : Layout} {b : List ℕ} {f : ℕ} (on : FileOn g b f) where
 
       first-hidden : All (λ s. T (hidden g b s)) first-epoch
       unfolding All
-      first-hidden = all-append (λ s. T (hidden g b s)) (stored (g .words) fresh pages c) (store (rootAddress g b f) hook ∷ []) (stored-hidden g b fresh c lim supply fit pages room) (root-hidden hook empty, tt)
+      first-hidden = all-append (λ s. T (hidden g b s)) (stored (g .words) fresh pages c) (store (rootAddress g b f) hook ∷ []) (stored-hidden supply fit pages room) (root-hidden hook empty, tt)
 
       first-once : (x : ℕ) → occ x (addresses first-epoch) ≤ 1
       unfolding occ store
@@ -344,13 +344,13 @@ module _ {g : Layout} {b : List ℕ} {f : ℕ} (on : FileOn g b f) where
           occ-addresses-append (rootAddress g b f) (stored (g .words) fresh pages c) (store (rootAddress g b f) hook ∷ []),
           one-same (rootAddress g b f),
           addresses-away (rootAddress g b f) (stored (g .words) fresh pages c) (all-map (λ s. s .at ≢ rootAddress g b f) (λ s. rootAddress g b f ≢ s .at) (λ s d z. d (sym z)) (stored (g .words) fresh pages c)
-              (stored-not-live g b fresh c lim supply pages room (rootAddress g b f) (rw (root-block g fit b f) (leaf-live g b (f / g .inodes) (leaf-of g fit f file))))),
+              (stored-not-live supply pages room (rootAddress g b f) (rw (root-block g fit b f) (leaf-live g b (f / g .inodes) (leaf-of g fit f file))))),
         ))
         | inr d ↦ omega (
           arith,
           occ-addresses-append x (stored (g .words) fresh pages c) (store (rootAddress g b f) hook ∷ []),
           one-other x (rootAddress g b f) d,
-          stored-apart g b fresh c lim supply pages room x,
+          stored-apart supply pages room x,
         )
       ]
 
@@ -391,7 +391,7 @@ module _ {g : Layout} {b : List ℕ} {f : ℕ} (on : FileOn g b f) where
         change = rw (ap (λ (x : ℕ). x / g .words) root-is ∙ hook-block, empty) (build-null-changed (g .words) pos b fresh (performed b first-epoch) lim (supply .nonzero) (blockCount g b - 1) (supply .below)
             h o new c (o + length new) filled (rw (← first-taken) room) (w .small) (held-of-all (g .words) fresh (performed b first-epoch) pages c pages-stand) (omega arith) (λ i u v l. omega arith));
         fine = rw (sound-null (g .words) b (blockCount g b - 1) h (size g b f)) tt;
-        spare = λ q. rw (← first-taken) (supply-once g b fresh c lim supply (ok .once) (length pages) room q);
+        spare = λ q. rw (← first-taken) (supply-once supply (ok .once) (length pages) room q);
       }
 
       pub empty-tail-good : GoodTurn g b f (step first-epoch (sizeAddress g b f) (o + length new)) (spliced g b f o new (o + length new))
@@ -415,4 +415,4 @@ module _ {g : Layout} {b : List ℕ} {f : ℕ} (on : FileOn g b f) where
       unfolding step store committed
       empty-held = held-of-all (g .words) fresh (set (performed b first-epoch) (sizeAddress g b f) (o + length new)) pages c
           (stands-set (performed b first-epoch) (stored (g .words) fresh pages c) (sizeAddress g b f) (o + length new)
-          (stored-not-live g b fresh c lim supply pages room (sizeAddress g b f) (rw (size-block g fit b f) (leaf-live g b (f / g .inodes) (leaf-of g fit f file)))) pages-stand)
+          (stored-not-live supply pages room (sizeAddress g b f) (rw (size-block g fit b f) (leaf-live g b (f / g .inodes) (leaf-of g fit f file)))) pages-stand)

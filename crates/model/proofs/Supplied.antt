@@ -47,7 +47,7 @@ lowest-rule g b = record {
   apart = λ i j u v e. omega (arith, free-rises g b i j u v);
 }
 
-module _ (g : Layout) (b : List ℕ) (fresh : ℕ → ℕ) (c lim : ℕ) (ok : Supply g b fresh c lim) where
+module _ {g : Layout} {b : List ℕ} {fresh : ℕ → ℕ} {c lim : ℕ} (ok : Supply g b fresh c lim) where
   -- a live block is none of them
   pub supply-live : (q m : ℕ) → c + m ≤ lim → 0 < occ q (liveBlocks g b) → used fresh q c m ≡ 0
   supply-live q m room live = used-none fresh q c m (λ i u v e. omega (arith, ok .spare i u (omega arith), subst (λ (x : ℕ). 0 < occ x (liveBlocks g b)) e live))
