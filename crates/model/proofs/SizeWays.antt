@@ -75,7 +75,7 @@ module _ {g : Layout} {b : List ℕ} {f : ℕ} (on : FileOn g b f) where
       pub fine : T (sound (g .words) b (blockCount g b - 1) h k (size g b f))
       pub spare : (q : ℕ) → occ q (liveBlocks g b) + extra q ≤ 1
 
-    module _ (h k o m : ℕ) (new : List ℕ) (extra gone : ℕ → ℕ) (w : Sized h k o m new extra gone) where
+    module _ {h k o m : ℕ} {new : List ℕ} {extra gone : ℕ → ℕ} (w : Sized h k o m new extra gone) where
       abbrev a : ℕ
       a = sizeAddress g b f
 
@@ -186,7 +186,7 @@ module _ {g : Layout} {b : List ℕ} {f : ℕ} (on : FileOn g b f) where
   pub shorten-good : (n : ℕ) → n ≤ size g b f → 0 < size g b f → GoodTurn g b f (step [] (sizeAddress g b f) n) (spliced g b f 0 [] n) (λ q. 0)
       (λ q. occ q (droppedBlocks (g .words) b (root g b f % g .words) (root g b f / g .words) (size g b f) n))
   unfolding All occ performed
-  shorten-good n less live = size-good [] tt (λ x. omega arith) (root g b f % g .words) (root g b f / g .words) 0 n [] (λ q. 0) (λ q. occ q (droppedBlocks (g .words) b (root g b f % g .words) (root g b f / g .words) (size g b f) n)) (record {
+  shorten-good n less live = size-good [] tt (λ x. omega arith) (record {
     old = tree-had;
     height = refl;
     low = ok .low f file live;
@@ -206,7 +206,7 @@ module _ {g : Layout} {b : List ℕ} {f : ℕ} (on : FileOn g b f) where
       let hides : All (λ s. T (hidden g b s)) ss = (root-hidden 0 z, tt) in
       let once : (x : ℕ) → occ x (addresses ss) ≤ 1 = λ x. omega (arith, one-most x (rootAddress g b f)) in
       let zero-root : root g (performed b ss) f ≡ 0 = root-stored ss hides 0 (stands ss hides once .0) in
-      size-good ss hides once 0 0 (size g b f) n (replicate (n - size g b f) 0) (λ q. 0) (λ q. 0) (record {
+      size-good ss hides once {h = 0} {k = 0} (record {
         old = λ live. absurd (omega arith);
         height = ap (λ (x : ℕ). x % g .words) zero-root ∙ zero-mod (g .words);
         low = omega arith;
@@ -235,7 +235,7 @@ module _ {g : Layout} {b : List ℕ} {f : ℕ} (on : FileOn g b f) where
     root-same = same clears clears-hidden clears-once .roots f file live
 
     pub lengthen-good : GoodTurn g b f (step clears (sizeAddress g b f) n) (spliced g b f (size g b f) zeros n) (λ q. 0) (λ q. 0)
-    lengthen-good = size-good clears clears-hidden clears-once (root g b f % g .words) (root g b f / g .words) (size g b f) n zeros (λ q. 0) (λ q. 0) (record {
+    lengthen-good = size-good clears clears-hidden clears-once (record {
       old = tree-had;
       height = ap (λ (x : ℕ). x % g .words) (sym root-same);
       low = ok .low f file live;
@@ -294,8 +294,7 @@ module _ {g : Layout} {b : List ℕ} {f : ℕ} (on : FileOn g b f) where
       unfolding Stood
       tail-good =
           let all-stand : Stands (performed b tail-epoch) tail-epoch = stands tail-epoch tail-hidden tail-once in
-          size-good tail-epoch tail-hidden tail-once (root g b f % g .words) (root g b f / g .words) (size g b f) (size g b f + length new) new
-          (λ q. used fresh q c (tailNeed (g .words) (root g b f % g .words) (size g b f) (length new))) (λ q. 0) (record {
+          size-good tail-epoch tail-hidden tail-once (record {
             old = tree-had;
             height = ap (λ (x : ℕ). x % g .words) (sym tail-root);
             low = ok .low f file live;
@@ -396,13 +395,13 @@ module _ {g : Layout} {b : List ℕ} {f : ℕ} (on : FileOn g b f) where
 
       pub empty-tail-good : GoodTurn g b f (step first-epoch (sizeAddress g b f) (o + length new)) (spliced g b f o new (o + length new))
           (λ q. used fresh q c (need (g .words) h o (length new))) (λ q. 0)
-      empty-tail-good = size-good first-epoch first-hidden first-once h 0 o (o + length new) new (λ q. used fresh q c (need (g .words) h o (length new))) (λ q. 0) sized
+      empty-tail-good = size-good first-epoch first-hidden first-once sized
 
       -- ---- The board that it leaves
 
       empty-root : root g (committed b (step first-epoch (sizeAddress g b f) (o + length new))) f ≡ hook
       unfolding step store committed
-      empty-root = sym (root-kept first-epoch first-hidden first-once h 0 o (o + length new) new (λ q. used fresh q c (need (g .words) h o (length new))) (λ q. 0) sized) ∙ root-is
+      empty-root = sym (root-kept first-epoch first-hidden first-once sized) ∙ root-is
 
       pub empty-height : root g (committed b (step first-epoch (sizeAddress g b f) (o + length new))) f % g .words ≡ h
       empty-height = ap (λ (x : ℕ). x % g .words) empty-root ∙ hook-low
