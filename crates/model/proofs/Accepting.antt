@@ -123,6 +123,12 @@ module _ (g : Layout) (b : List ℕ) where
   unfolding leafSound
   leaf-range l t = ranged g b (leaf g b l) (and-right (eqb (inodePointer g b l % g .words) 0) (inRange g b (leaf g b l)) t)
 
+-- f is a file of an accepted board
+pub record FileOn (g : Layout) (b : List ℕ) (f : ℕ) : Type 0 where
+  pub fit : Fits g
+  pub board : T (accepted g b)
+  pub file : f < files g
+
 -- an accepted board, as facts on numbers
 pub record Facts (g : Layout) (b : List ℕ) : Type 0 where
   pub sizes : Counted g b

@@ -26,15 +26,15 @@ use Rattle.model.proofs.Agree.{agree, agree-away, agree-blocks, agree-t
 use Rattle.model.proofs.Built.{held, used}
 use Rattle.model.proofs.Grown.{Grown, grown}
 use Rattle.model.proofs.Shown.{Same, words-pos, leaf-of, same-address, count-kept, inode-kept, root-block, leaf-live}
-use Rattle.model.proofs.Accepting.{accepted-parts, Facts, facts}
+use Rattle.model.proofs.Accepting.{FileOn, accepted-parts, Facts, facts}
 use Rattle.model.proofs.Commits.{FileCommit, grown-commit, Others, others-from}
 use Rattle.model.proofs.Apart.{Spot, leaf-not-file, spot-ranged, spot-live, spot-trailer, spot-address, spot-size, spot-others, stored-root}
-use Rattle.model.proofs.Committing.{facts-same, spot-same, spot-commit, spot-counts}
+use Rattle.model.proofs.Committing.{on-same, spot-same, spot-commit, spot-counts}
 use Rattle.model.proofs.Supplied.{Supply, supply-once}
 use Rattle.model.proofs.Steps.{committed, allCommitted, performed-steps}
 use Rattle.model.proofs.GoodSteps.{GoodStep, pages-hidden, pages-once, pages-same, pages-held}
 use Rattle.model.proofs.Taking.{Takes}
-use Rattle.model.proofs.Writing.{FileOn, Writing, Spanned, Growing}
+use Rattle.model.proofs.Writing.{Writing, Spanned, Growing}
 
 -- ---- The plan
 
@@ -91,7 +91,8 @@ module _ (g : Layout) (fit : Fits g) (fresh : ℕ → ℕ) (b : List ℕ) (f h :
 -- ---- The step
 
 module _ {g : Layout} {b : List ℕ} {f e : ℕ} (w : Growing g b f e) {fresh : ℕ → ℕ} {lim : ℕ} (supply : Supply g b fresh 0 lim) where
-  open FileOn (w .on) using (fit, board, file)
+  open Growing w using (on)
+  open FileOn on using (fit, board, file)
 
   ok : Facts g b
   ok = facts g fit b board
@@ -135,6 +136,10 @@ module _ {g : Layout} {b : List ℕ} {f e : ℕ} (w : Growing g b f e) {fresh : 
     unfolding c₁
     shown-same = pages-same fit board supply ps fits
 
+    -- the file there
+    on₁ : FileOn g c₁ f
+    on₁ = on-same on shown-same
+
     value : ℕ
     value = grownRoot g fresh b f h
 
@@ -145,19 +150,19 @@ module _ {g : Layout} {b : List ℕ} {f e : ℕ} (w : Growing g b f e) {fresh : 
     address-same : rootAddress g b f ≡ rootAddress g c₁ f
     address-same = same-address g fit b c₁ shown-same f (leaf-of g fit f file)
 
-    lent-spot : Spot g fit b ok f file (rootAddress g b f)
+    lent-spot : Spot g b f (rootAddress g b f)
     lent-spot = inl (inl refl)
 
-    commit-spot : Spot g fit c₁ (facts-same g fit b c₁ board shown-same) f file (rootAddress g b f)
-    commit-spot = spot-same g fit b c₁ board shown-same f file (rootAddress g b f) lent-spot
+    commit-spot : Spot g c₁ f (rootAddress g b f)
+    commit-spot = spot-same on shown-same (rootAddress g b f) lent-spot
 
     held-done : held (g .words) fresh done ps 0
     unfolding done c₁
-    held-done = pages-held fit board supply ps fits (rootAddress g b f) value (spot-live g fit b ok f file (rootAddress g b f) lent-spot)
+    held-done = pages-held fit board supply ps fits (rootAddress g b f) value (spot-live on (rootAddress g b f) lent-spot)
 
     root-done : root g done f ≡ value
     unfolding done
-    root-done = stored-root g fit c₁ (facts-same g fit b c₁ board shown-same) f file (rootAddress g b f) value commit-spot address-same
+    root-done = stored-root on₁ (rootAddress g b f) value commit-spot address-same
 
     height-done : root g done f % g .words ≡ h
     unfolding value
@@ -169,7 +174,7 @@ module _ {g : Layout} {b : List ℕ} {f e : ℕ} (w : Growing g b f e) {fresh : 
 
     size-done : size g b f ≡ size g done f
     unfolding done sizeAddress
-    size-done = shown-same .sizes f file ∙ spot-size g fit c₁ (facts-same g fit b c₁ board shown-same) f file (rootAddress g b f) value commit-spot f file (λ x. omega (arith, x, address-same))
+    size-done = shown-same .sizes f file ∙ spot-size on₁ (rootAddress g b f) value commit-spot f file (λ x. omega (arith, x, address-same))
 
     len : length b ≡ length done
     unfolding done
@@ -202,8 +207,8 @@ module _ {g : Layout} {b : List ℕ} {f e : ℕ} (w : Growing g b f e) {fresh : 
     growth-good = record {
       hides = pages-hidden fit board supply ps fits;
       once = pages-once fit board supply ps fits;
-      within = spot-ranged g fit b ok f file (rootAddress g b f) lent-spot;
-      outcome = spot-commit g fit b c₁ board shown-same f file (rootAddress g b f) value commit-spot (contents g b f) (λ q. used fresh q 0 (length ps)) (λ q. 0) file-grown met-once;
+      within = spot-ranged on (rootAddress g b f) lent-spot;
+      outcome = spot-commit on shown-same (rootAddress g b f) value commit-spot file-grown met-once;
     }
 
     -- ---- The grown board
@@ -215,7 +220,7 @@ module _ {g : Layout} {b : List ℕ} {f e : ℕ} (w : Growing g b f e) {fresh : 
     -- the other files are as they were
     pub growth-others : Others g b (committed b (growthStep g fresh b f h)) f
     unfolding step store committed done c₁ value
-    growth-others = others-from g pos b c₁ done f shown-same (spot-others g fit c₁ (facts-same g fit b c₁ board shown-same) f file (rootAddress g b f) value commit-spot)
+    growth-others = others-from g pos b c₁ done f shown-same (spot-others on₁ (rootAddress g b f) value commit-spot)
 
     pub growth-length : length (committed b (growthStep g fresh b f h)) ≡ length b
     unfolding step store committed done c₁ value
@@ -225,12 +230,12 @@ module _ {g : Layout} {b : List ℕ} {f e : ℕ} (w : Growing g b f e) {fresh : 
     pub growth-inode : inodeBlock g (committed b (growthStep g fresh b f h)) ≡ inodeBlock g b
     unfolding step store committed done c₁ value
     growth-inode = sym (inode-kept g b done len fit
-        (λ j l. shown-same .trailers j l ∙ spot-trailer g fit c₁ (facts-same g fit b c₁ board shown-same) f file (rootAddress g b f) value commit-spot j l))
+        (λ j l. shown-same .trailers j l ∙ spot-trailer on₁ (rootAddress g b f) value commit-spot j l))
 
     -- and every file's
     pub growth-addresses : (i : ℕ) → i < files g → rootAddress g b i ≡ rootAddress g (committed b (growthStep g fresh b f h)) i
     unfolding step store committed done c₁ value
-    growth-addresses i u = same-address g fit b c₁ shown-same i (leaf-of g fit i u) ∙ spot-address g fit c₁ (facts-same g fit b c₁ board shown-same) f file (rootAddress g b f) value commit-spot i u
+    growth-addresses i u = same-address g fit b c₁ shown-same i (leaf-of g fit i u) ∙ spot-address on₁ (rootAddress g b f) value commit-spot i u
 
     pub growth-address : rootAddress g (committed b (growthStep g fresh b f h)) f ≡ rootAddress g b f
     growth-address = sym (growth-addresses f file)
@@ -265,7 +270,7 @@ module _ {g : Layout} {b : List ℕ} {f e : ℕ} (w : Growing g b f e) {fresh : 
     -- the live blocks are those of b and those of the levels
     counts-done : (q : ℕ) → occ q (liveBlocks g done) ≡ occ q (liveBlocks g b) + used fresh q 0 (length ps)
     unfolding done
-    counts-done q = omega (arith, spot-counts g fit b c₁ board shown-same f file (rootAddress g b f) value commit-spot (contents g b f) (λ q. used fresh q 0 (length ps)) (λ q. 0) file-grown met-once q)
+    counts-done q = omega (arith, spot-counts on shown-same (rootAddress g b f) value commit-spot file-grown met-once q)
 
     pub growth-counts : (q : ℕ) → occ q (liveBlocks g (committed b (growthStep g fresh b f h))) ≡ occ q (liveBlocks g b) + used fresh q 0 (growthTo g fresh b f h .taken)
     unfolding step store committed done c₁ value growthTo plan

@@ -24,19 +24,20 @@ use Rattle.model.proofs.Splice.{past-span}
 use Rattle.model.proofs.Built.{used}
 use Rattle.model.proofs.Descent.{Replaced, walk-inside, word-changed, Committed, descend-inside, descend-low, descend-changed, word-in-block}
 use Rattle.model.proofs.Shown.{Same, words-pos, leaf-of, file-live, same-address, root-block}
-use Rattle.model.proofs.Accepting.{Facts, facts, address-on-board}
+use Rattle.model.proofs.Accepting.{FileOn, Facts, facts, address-on-board}
 use Rattle.model.proofs.Visible.{same-refl}
 use Rattle.model.proofs.Commits.{FileCommit, Written, spliced, written-commit}
 use Rattle.model.proofs.Apart.{Spot, spot-ranged, spot-live, spot-root, spot-size, stored-root, leaf-not-file, tree-not-inode-of}
-use Rattle.model.proofs.Committing.{facts-same, spot-same, spot-commit, spot-counts}
+use Rattle.model.proofs.Committing.{on-same, spot-same, spot-commit, spot-counts}
 use Rattle.model.proofs.Supplied.{Supply, supply-once, stored-keeps}
 use Rattle.model.proofs.Steps.{committed}
-use Rattle.model.proofs.Writing.{FileOn, Writing}
+use Rattle.model.proofs.Writing.{Writing}
 use Rattle.model.proofs.GoodSteps.{GoodTurn, pages-hidden, pages-once, pages-same, pages-held}
 
 module _ {g : Layout} {b : List ℕ} {f o : ℕ} {new : List ℕ} (w : Writing g b f o new) (some : 0 < length new)
     (within : o + length new ≤ size g b f) (under : o + length new ≤ span (g .words) (root g b f % g .words)) where
-  open FileOn (w .on) using (fit, board, file)
+  open Writing w using (on)
+  open FileOn on using (fit, board, file)
 
   ok : Facts g b
   ok = facts g fit b board
@@ -73,18 +74,18 @@ module _ {g : Layout} {b : List ℕ} {f o : ℕ} {new : List ℕ} (w : Writing g
     same : Same g b b
     same = same-refl g fit b
 
-    spot : Spot g fit b (facts-same g fit b b board same) f file a
+    spot : Spot g b f a
     spot = inr in-tree
 
     root-stays : root g b f ≡ root g b₂ f
-    root-stays = spot-root g fit b ok f file a v spot f file (λ x. tree-not-inode-of g fit b ok f file a in-tree f 0 file (omega arith) (add-zero (rootAddress g b f) ∙ x))
+    root-stays = spot-root on a v spot f file (λ x. tree-not-inode-of on a in-tree f 0 file (omega arith) (add-zero (rootAddress g b f) ∙ x))
 
     size-stays : size g b f ≡ size g b₂ f
     unfolding sizeAddress
-    size-stays = spot-size g fit b ok f file a v spot f file (tree-not-inode-of g fit b ok f file a in-tree f 1 file (omega arith))
+    size-stays = spot-size on a v spot f file (tree-not-inode-of on a in-tree f 1 file (omega arith))
 
     on-board : a < length b
-    on-board = address-on-board g fit b (ok .sizes) a (omega (arith, spot-ranged g fit b ok f file a spot .1))
+    on-board = address-on-board g fit b (ok .sizes) a (omega (arith, spot-ranged on a spot .1))
 
     replaced : Replaced (g .words) b b₂ a (root g b f % g .words) (root g b f / g .words) (size g b f)
     unfolding fileBlocks rootBlocks cell
@@ -103,7 +104,7 @@ module _ {g : Layout} {b : List ℕ} {f o : ℕ} {new : List ℕ} (w : Writing g
     }
 
     pub single-live : 0 < occ (a / g .words) (liveBlocks g b)
-    single-live = spot-live g fit b ok f file a spot
+    single-live = spot-live on a spot
 
     single-file : FileCommit g b b₂ f (spliced g b f o new (size g b f)) (λ q. 0) (λ q. 0)
     single-file = written-commit g fit b b₂ (sym (length-set b a v)) f (root g b f % g .words) (root g b f / g .words) o (size g b f) new (λ q. 0) (λ q. 0) written (ok .tree f file)
@@ -114,10 +115,10 @@ module _ {g : Layout} {b : List ℕ} {f o : ℕ} {new : List ℕ} (w : Writing g
       good = record {
         hides = tt;
         once = λ x. omega arith;
-        within = spot-ranged g fit b ok f file a spot;
-        outcome = spot-commit g fit b b board same f file a v spot (spliced g b f o new (size g b f)) (λ q. 0) (λ q. 0) single-file (λ q. omega (arith, ok .once q));
+        within = spot-ranged on a spot;
+        outcome = spot-commit on same a v spot single-file (λ q. omega (arith, ok .once q));
       };
-      lives = spot-counts g fit b b board same f file a v spot (spliced g b f o new (size g b f)) (λ q. 0) (λ q. 0) single-file (λ q. omega (arith, ok .once q));
+      lives = spot-counts on same a v spot single-file (λ q. omega (arith, ok .once q));
     }
 
   -- ---- Shadow inside the file
@@ -143,6 +144,10 @@ module _ {g : Layout} {b : List ℕ} {f o : ℕ} {new : List ℕ} (w : Writing g
       unfolding c₁
       shown-same = pages-same fit board supply (sh .pages) room
 
+      -- the file there
+      on₁ : FileOn g c₁ f
+      on₁ = on-same on shown-same
+
       value : ℕ
       value = g .words * top + low
 
@@ -154,14 +159,14 @@ module _ {g : Layout} {b : List ℕ} {f o : ℕ} {new : List ℕ} (w : Writing g
       unfolding fileBlocks rootBlocks
       place = descend-inside (g .words) pos fresh b new c (root g b f % g .words) (root g b f / g .words) (size g b f) o (rootAddress g b f) (omega arith) (omega arith)
 
-      lent-spot : Spot g fit b ok f file (sh .at)
+      lent-spot : Spot g b f (sh .at)
       lent-spot = elim place [ inl e ↦ inl (inl e) | inr z ↦ inr z ]
 
       pub inside-live : 0 < occ (sh .at / g .words) (liveBlocks g b)
-      inside-live = spot-live g fit b ok f file (sh .at) lent-spot
+      inside-live = spot-live on (sh .at) lent-spot
 
-      commit-spot : Spot g fit c₁ (facts-same g fit b c₁ board shown-same) f file (sh .at)
-      commit-spot = spot-same g fit b c₁ board shown-same f file (sh .at) lent-spot
+      commit-spot : Spot g c₁ f (sh .at)
+      commit-spot = spot-same on shown-same (sh .at) lent-spot
 
       committed-block : value / g .words ≡ top
       unfolding value
@@ -173,7 +178,7 @@ module _ {g : Layout} {b : List ℕ} {f o : ℕ} {new : List ℕ} (w : Writing g
 
       commits : getD done (sh .at) 0 ≡ value
       unfolding done
-      commits = getD-set-same c₁ (sh .at) value 0 (rw (← (shown-same .lengths)) (address-on-board g fit b (ok .sizes) (sh .at) (omega (arith, spot-ranged g fit b ok f file (sh .at) lent-spot .1))))
+      commits = getD-set-same c₁ (sh .at) value 0 (rw (← (shown-same .lengths)) (address-on-board g fit b (ok .sizes) (sh .at) (omega (arith, spot-ranged on (sh .at) lent-spot .1))))
 
       words-stay : (q : ℕ) → 0 < occ q (fileBlocks g b f) → (j : ℕ) → j < g .words → g .words * q + j ≢ sh .at → cell (g .words) b q j ≡ cell (g .words) done q j
       unfolding done c₁ cell
@@ -181,12 +186,12 @@ module _ {g : Layout} {b : List ℕ} {f o : ℕ} {new : List ℕ} (w : Writing g
 
       root-hit : sh .at ≡ rootAddress g b f → root g done f ≡ value
       unfolding done
-      root-hit e = stored-root g fit c₁ (facts-same g fit b c₁ board shown-same) f file (sh .at) value commit-spot (e ∙ same-address g fit b c₁ shown-same f (leaf-of g fit f file))
+      root-hit e = stored-root on₁ (sh .at) value commit-spot (e ∙ same-address g fit b c₁ shown-same f (leaf-of g fit f file))
 
       root-else : sh .at ≢ rootAddress g b f → root g b f ≡ root g done f
       unfolding done
       root-else d = shown-same .roots f file (omega arith)
-          ∙ spot-root g fit c₁ (facts-same g fit b c₁ board shown-same) f file (sh .at) value commit-spot f file (λ e. d (sym e ∙ sym (same-address g fit b c₁ shown-same f (leaf-of g fit f file))))
+          ∙ spot-root on₁ (sh .at) value commit-spot f file (λ e. d (sym e ∙ sym (same-address g fit b c₁ shown-same f (leaf-of g fit f file))))
 
       len : length b ≡ length done
       unfolding done
@@ -196,12 +201,12 @@ module _ {g : Layout} {b : List ℕ} {f o : ℕ} {new : List ℕ} (w : Writing g
       unfolding sizeAddress
       not-size x = elim place [
         | inl e ↦ omega (arith, x, e)
-        | inr z ↦ tree-not-inode-of g fit b ok f file (sh .at) z f 1 file (omega arith) x
+        | inr z ↦ tree-not-inode-of on (sh .at) z f 1 file (omega arith) x
       ]
 
       size-kept : size g b f ≡ size g done f
       unfolding done sizeAddress
-      size-kept = shown-same .sizes f file ∙ spot-size g fit c₁ (facts-same g fit b c₁ board shown-same) f file (sh .at) value commit-spot f file
+      size-kept = shown-same .sizes f file ∙ spot-size on₁ (sh .at) value commit-spot f file
           (λ x. not-size (ap (λ (y : ℕ). y + 1) (same-address g fit b c₁ shown-same f (leaf-of g fit f file)) ∙ x))
 
       root-low : root g done f % g .words ≡ root g b f % g .words
@@ -259,8 +264,8 @@ module _ {g : Layout} {b : List ℕ} {f o : ℕ} {new : List ℕ} (w : Writing g
             good = record {
               hides = pages-hidden fit board supply (sh .pages) room;
               once = pages-once fit board supply (sh .pages) room;
-              within = spot-ranged g fit b ok f file (sh .at) lent-spot;
-              outcome = spot-commit g fit b c₁ board shown-same f file (sh .at) value commit-spot (spliced g b f o new (size g b f)) (λ q. used fresh q c (length (sh .pages))) (λ q. occ q given) inside-file once;
+              within = spot-ranged on (sh .at) lent-spot;
+              outcome = spot-commit on shown-same (sh .at) value commit-spot inside-file once;
             };
-            lives = spot-counts g fit b c₁ board shown-same f file (sh .at) value commit-spot (spliced g b f o new (size g b f)) (λ q. used fresh q c (length (sh .pages))) (λ q. occ q given) inside-file once;
+            lives = spot-counts on shown-same (sh .at) value commit-spot inside-file once;
           }

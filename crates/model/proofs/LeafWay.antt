@@ -26,14 +26,14 @@ use Rattle.model.proofs.Paths.{touched-new}
 use Rattle.model.proofs.Changed.{Changed}
 use Rattle.model.proofs.Built.{held, used, used-add, used-one, length-build, held-left, held-right, build-changed}
 use Rattle.model.proofs.Shown.{Same, words-pos, count-kept, inode-kept, trailer-kept, leaf-kept, leaf-sound-kept, inode-live, leaf-live, file-live, leaf-of, slot, root-block}
-use Rattle.model.proofs.Accepting.{Ranged, in-range, accepted-parts, Facts, facts, address-on-board}
+use Rattle.model.proofs.Accepting.{FileOn, Ranged, in-range, accepted-parts, Facts, facts, address-on-board}
 use Rattle.model.proofs.Commits.{Written, spliced, written-commit, Others, one-file, OneFile, one-file-counts}
 use Rattle.model.proofs.Apart.{inode-not-leaf, file-not-inode, inodes-apart}
 use Rattle.model.proofs.Supplied.{Supply, supply-once, stored-keeps}
 use Rattle.model.proofs.Steps.{committed}
 use Rattle.model.proofs.GoodSteps.{GoodTurn, pages-hidden, pages-once, pages-same, pages-held}
 use Rattle.model.proofs.Taking.{Takes}
-use Rattle.model.proofs.Writing.{FileOn, Writing}
+use Rattle.model.proofs.Writing.{Writing}
 
 -- ---- The step
 

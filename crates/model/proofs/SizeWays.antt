@@ -33,13 +33,13 @@ use Rattle.model.proofs.InPlaceStores.{in-place-hidden, in-place-once}
 use Rattle.model.proofs.Tailed.{zeros-replicate, splice-zeros, hole-changed, length-tail, tail-changed, length-changed}
 use Rattle.model.proofs.Shrunk.{shrink-changed}
 use Rattle.model.proofs.Shown.{Same, words-pos, leaf-of, leaf-live, file-live, same-address, root-block, size-block}
-use Rattle.model.proofs.Accepting.{Facts, facts}
+use Rattle.model.proofs.Accepting.{FileOn, Facts, facts}
 use Rattle.model.proofs.Commits.{FileCommit, Had, had-blocks, Written, spliced, written-commit}
 use Rattle.model.proofs.Apart.{Spot, spot-ranged, spot-root, stored-size, leaf-not-file}
-use Rattle.model.proofs.Committing.{facts-same, spot-same, spot-commit, spot-counts}
+use Rattle.model.proofs.Committing.{on-same, spot-same, spot-commit, spot-counts}
 use Rattle.model.proofs.Supplied.{Supply, supply-once, stored-hidden, stored-apart, stored-not-live}
 use Rattle.model.proofs.Steps.{committed}
-use Rattle.model.proofs.Writing.{FileOn, Writing}
+use Rattle.model.proofs.Writing.{Writing}
 use Rattle.model.proofs.GoodSteps.{GoodTurn, epoch-same, epoch-stands}
 
 module _ {g : Layout} {b : List ℕ} {f : ℕ} (on : FileOn g b f) where
@@ -60,6 +60,10 @@ module _ {g : Layout} {b : List ℕ} {f : ℕ} (on : FileOn g b f) where
 
     same : Same g b c₁
     same = epoch-same g fit b board ss hides
+
+    -- the file there
+    on₁ : FileOn g c₁ f
+    on₁ = on-same on same
 
     stands : Stands c₁ ss
     stands = epoch-stands g fit b board ss hides once
@@ -82,11 +86,11 @@ module _ {g : Layout} {b : List ℕ} {f : ℕ} (on : FileOn g b f) where
       abbrev done : List ℕ
       done = set c₁ a m
 
-      lent-spot : Spot g fit b ok f file a
+      lent-spot : Spot g b f a
       lent-spot = inl (inr refl)
 
-      spot : Spot g fit c₁ (facts-same g fit b c₁ board same) f file a
-      spot = spot-same g fit b c₁ board same f file a lent-spot
+      spot : Spot g c₁ f a
+      spot = spot-same on same a lent-spot
 
       address-kept : rootAddress g b f ≡ rootAddress g c₁ f
       address-kept = same-address g fit b c₁ same f (leaf-of g fit f file)
@@ -96,11 +100,11 @@ module _ {g : Layout} {b : List ℕ} {f : ℕ} (on : FileOn g b f) where
 
       root-kept : root g c₁ f ≡ root g done f
       unfolding sizeAddress
-      root-kept = spot-root g fit c₁ (facts-same g fit b c₁ board same) f file a m spot f file (λ x. omega (arith, x, address-kept))
+      root-kept = spot-root on₁ a m spot f file (λ x. omega (arith, x, address-kept))
 
       now : size g done f ≡ m
       unfolding sizeAddress
-      now = stored-size g fit c₁ (facts-same g fit b c₁ board same) f file a m spot (ap (λ (x : ℕ). x + 1) address-kept)
+      now = stored-size on₁ a m spot (ap (λ (x : ℕ). x + 1) address-kept)
 
       -- the leaf is no block of the tree, also not of what it has become
       leaf-out : occ (a / g .words) (blocks (g .words) c₁ h (root g c₁ f / g .words) m) ≡ 0
@@ -136,10 +140,10 @@ module _ {g : Layout} {b : List ℕ} {f : ℕ} (on : FileOn g b f) where
         good = record {
           hides = hides;
           once = once;
-          within = spot-ranged g fit b ok f file a lent-spot;
-          outcome = spot-commit g fit b c₁ board same f file a m spot (spliced g b f o new m) extra gone sized-file (w .spare);
+          within = spot-ranged on a lent-spot;
+          outcome = spot-commit on same a m spot sized-file (w .spare);
         };
-        lives = spot-counts g fit b c₁ board same f file a m spot (spliced g b f o new m) extra gone sized-file (w .spare);
+        lives = spot-counts on same a m spot sized-file (w .spare);
       }
 
   -- the file's own tree

@@ -30,10 +30,11 @@ use Rattle.model.proofs.Steps.{committed}
 use Rattle.model.proofs.Descent.{hole≢block}
 use Rattle.model.proofs.Shown.{words-pos, rootByte, contents-bytes, leaf-of, leaf-live, root-block, size-block}
 use Rattle.model.proofs.Commits.{spliced}
+use Rattle.model.proofs.Accepting.{FileOn}
 use Rattle.model.proofs.Supplied.{Supply}
 use Rattle.model.proofs.GoodSteps.{GoodStep, GoodTurn}
 use Rattle.model.proofs.Taking.{Takes, in-place-live}
-use Rattle.model.proofs.Writing.{FileOn, Writing, Spanned}
+use Rattle.model.proofs.Writing.{Writing, Spanned}
 use Rattle.model.proofs.InsideWays.{single-live, single-good, inside-live, inside-good}
 use Rattle.model.proofs.SizeWays.{tail-good, empty-tail-good}
 use Rattle.model.proofs.LeafWay.{leaf-takes, leaf-good}

@@ -2,25 +2,19 @@
 use mathlib.Core.List.{List}
 use Prim.Native.Nat.{ℕ, _+_, _%_, _≤_, _<_}
 use lib.ListN.{length}
-use lib.Dec.{T}
-use Rattle.model.specs.Layout.{Layout, Fits, files}
+use Rattle.model.specs.Layout.{Layout}
 use Rattle.model.specs.Tree.{span}
-use Rattle.model.specs.Board.{greatest, root, size, accepted}
+use Rattle.model.specs.Board.{greatest, root, size}
 use Rattle.model.proofs.Splice.{Small}
+use Rattle.model.proofs.Accepting.{FileOn}
 
--- f is a file of an accepted board
-pub record FileOn (g : Layout) (b : List ℕ) (f : ℕ) : Type 0 where
-  pub fit : Fits g
-  pub board : T (accepted g b)
-  pub file : f < files g
-
--- a write to it that ends by the greatest size
+-- a write to a file of an accepted board that ends by the greatest size
 pub record Writing (g : Layout) (b : List ℕ) (f o : ℕ) (new : List ℕ) : Type 0 where
   pub on : FileOn g b f
   pub small : Small new
   pub most : o + length new ≤ greatest g
 
--- it is empty, or its tree spans e bytes
+-- the file is empty, or its tree spans e bytes
 abbrev pub Spanned : Layout → List ℕ → ℕ → ℕ → Type 0
 Spanned g b f e = 0 < size g b f → e ≤ span (g .words) (root g b f % g .words)
 
