@@ -51,14 +51,14 @@ module _ {g : Layout} {b c : List ℕ} {f : ℕ} (on : FileOn g b f) (same : Sam
             leaves = λ l u. rw (← (leaf-sound-kept g b b₂ len l (pointers l u))) (parts .leaves l u);
             leaves-stay = λ l u d. stays l u;
             leaf-moved = λ q. omega (arith, ap (one q) (stays (f / g .inodes) (leaf-of g fit f file)));
-            others = others-from g (words-pos g fit) b c b₂ f same (spot-others on-same a v s);
+            others = others-from (words-pos g fit) same (spot-others on-same a v s);
             file = done;
             spare = λ q. omega (arith, spare q);
           }
 
       pub spot-commit : Outcome g b b₂ f wanted
-      spot-commit = one-file g fit b b₂ f wanted (λ q. 0) (λ q. 0) extra gone one-word board
+      spot-commit = one-file on one-word
 
       -- the live blocks are those of b and the extra ones, less those that are gone
       pub spot-counts : (q : ℕ) → occ q (liveBlocks g b₂) + gone q ≡ occ q (liveBlocks g b) + extra q
-      spot-counts q = omega (arith, one-file-counts g fit b b₂ f wanted (λ q. 0) (λ q. 0) extra gone one-word board file q)
+      spot-counts q = omega (arith, one-file-counts on one-word q)

@@ -220,7 +220,7 @@ module _ {g : Layout} {b : List ℕ} {f e : ℕ} (w : Growing g b f e) {fresh : 
     -- the other files are as they were
     pub growth-others : Others g b (committed b (growthStep g fresh b f h)) f
     unfolding step store committed done c₁ value
-    growth-others = others-from g pos b c₁ done f shown-same (spot-others on₁ (rootAddress g b f) value commit-spot)
+    growth-others = others-from pos shown-same (spot-others on₁ (rootAddress g b f) value commit-spot)
 
     pub growth-length : length (committed b (growthStep g fresh b f h)) ≡ length b
     unfolding step store committed done c₁ value

@@ -91,7 +91,7 @@ module _ {g : Layout} {b : List ℕ} {f o : ℕ} {new : List ℕ} (w : Writing g
     unfolding fileBlocks rootBlocks cell
     replaced = record { once = tree-once; same = λ q l i u d. sym (getD-set-other b a (g .words * q + i) v 0 d) }
 
-    written : Written g fit b b₂ (sym (length-set b a v)) f (root g b f % g .words) (root g b f / g .words) o (size g b f) new (λ q. 0) (λ q. 0)
+    written : Written g b b₂ f (root g b f % g .words) (root g b f / g .words) o (size g b f) new (λ q. 0) (λ q. 0)
     written = record {
       old = λ live. (refl, refl);
       height = ap (λ (x : ℕ). x % g .words) (sym root-stays);
@@ -107,7 +107,7 @@ module _ {g : Layout} {b : List ℕ} {f o : ℕ} {new : List ℕ} (w : Writing g
     single-live = spot-live on a spot
 
     single-file : FileCommit g b b₂ f (spliced g b f o new (size g b f)) (λ q. 0) (λ q. 0)
-    single-file = written-commit g fit b b₂ (sym (length-set b a v)) f (root g b f % g .words) (root g b f / g .words) o (size g b f) new (λ q. 0) (λ q. 0) written (ok .tree f file)
+    single-file = written-commit fit (sym (length-set b a v)) written (ok .tree f file)
 
     pub single-good : GoodTurn g b f (step [] a v) (spliced g b f o new (size g b f)) (λ q. 0) (λ q. 0)
     unfolding step store committed performed All occ
@@ -239,7 +239,7 @@ module _ {g : Layout} {b : List ℕ} {f o : ℕ} {new : List ℕ} (w : Writing g
       abbrev given : List ℕ
       given = insideBlocks (g .words) b (root g b f % g .words) (root g b f / g .words) (size g b f) o (length new)
 
-      inside-written : Written g fit b done len f (root g b f % g .words) (root g b f / g .words) o (size g b f) new (λ q. used fresh q c (length (sh .pages))) (λ q. occ q given)
+      inside-written : Written g b done f (root g b f % g .words) (root g b f / g .words) o (size g b f) new (λ q. used fresh q c (length (sh .pages))) (λ q. occ q given)
       inside-written = record {
         old = λ live. (refl, refl);
         height = root-low;
@@ -254,7 +254,7 @@ module _ {g : Layout} {b : List ℕ} {f o : ℕ} {new : List ℕ} (w : Writing g
       }
 
       inside-file : FileCommit g b done f (spliced g b f o new (size g b f)) (λ q. used fresh q c (length (sh .pages))) (λ q. occ q given)
-      inside-file = written-commit g fit b done len f (root g b f % g .words) (root g b f / g .words) o (size g b f) new (λ q. used fresh q c (length (sh .pages))) (λ q. occ q given) inside-written (ok .tree f file)
+      inside-file = written-commit fit len inside-written (ok .tree f file)
 
       pub inside-good : GoodTurn g b f (step ss (sh .at) (g .words * top + low)) (spliced g b f o new (size g b f)) (λ q. used fresh q c (length (sh .pages))) (λ q. occ q given)
       unfolding step store committed done c₁ value

@@ -278,7 +278,7 @@ module _ {g : Layout} {b : List ℕ} {f o : ℕ} {new : List ℕ} (w : Writing g
       (build-changed (g .words) pos b fresh b₂ lim (supply .nonzero) (blockCount g b - 1) (supply .below) (root g b f % g .words) (root g b f / g .words) (size g b f) o new c m
       (touched-new (g .words) (root g b f % g .words) (root g b f / g .words) (size g b f) o (length new) some) (omega (arith, count)) (w .small) tree-held (tree-stays f file) (omega arith) (omega arith) (λ u. omega arith) reach))
 
-  written : Written g fit b b₂ len f (root g b f % g .words) (root g b f / g .words) o m new (λ q. used fresh q c (length ps)) (λ q. occ q path)
+  written : Written g b b₂ f (root g b f % g .words) (root g b f / g .words) o m new (λ q. used fresh q c (length ps)) (λ q. occ q path)
   written = record {
     old = λ z. (refl, refl);
     height = height-new;
@@ -298,7 +298,7 @@ module _ {g : Layout} {b : List ℕ} {f o : ℕ} {new : List ℕ} (w : Writing g
     leaves-stay = leaf-stays;
     leaf-moved = λ q. omega (arith, ap (one q) leaf-new);
     others = others;
-    file = written-commit g fit b b₂ len f (root g b f % g .words) (root g b f / g .words) o m new (λ q. used fresh q c (length ps)) (λ q. occ q path) written (ok .tree f file);
+    file = written-commit fit len written (ok .tree f file);
     spare = λ q. omega (arith, supply-once supply (ok .once) (length ps + 1) (omega arith) q, used-add fresh q c (length ps) 1, used-one fresh q (c + length ps));
   }
 
@@ -306,7 +306,7 @@ module _ {g : Layout} {b : List ℕ} {f o : ℕ} {new : List ℕ} (w : Writing g
   unfolding occ
   leaf-lives q = omega (
     arith,
-    one-file-counts g fit b b₂ f (spliced g b f o new m) (λ q. one q copied) (λ q. one q (leaf g b l₀)) (λ q. used fresh q c (length ps)) (λ q. occ q path) moved board file q,
+    one-file-counts (w .on) moved q,
     used-add fresh q c (length ps) 1,
     used-one fresh q (c + length ps),
   )
@@ -319,7 +319,7 @@ module _ {g : Layout} {b : List ℕ} {f o : ℕ} {new : List ℕ} (w : Writing g
       hides = pages-hidden fit board supply pages pages-room;
       once = pages-once fit board supply pages pages-room;
       within = rw commit-block (ok .inode);
-      outcome = one-file g fit b b₂ f (spliced g b f o new m) (λ q. one q copied) (λ q. one q (leaf g b l₀)) (λ q. used fresh q c (length ps)) (λ q. occ q path) moved board;
+      outcome = one-file (w .on) moved;
     };
     lives = leaf-lives;
   }

@@ -113,13 +113,13 @@ module _ {g : Layout} {b : List ℕ} {f : ℕ} (on : FileOn g b f) where
           rw (size-block g fit b f) (omega (
             arith,
             w .change .counts q,
-            ap (occ q) (had-blocks g fit b done len f h k (w .old)),
+            ap (occ q) (had-blocks g fit b f h k (w .old)),
             leaf-not-file g b (ok .once) (f / g .inodes) f (leaf-of g fit f file) file,
             leaf-live g b (f / g .inodes) (leaf-of g fit f file),
             w .spare q,
           ))
 
-      written : Written g fit b done len f h k o m new extra gone
+      written : Written g b done f h k o m new extra gone
       written = record {
         old = w .old;
         height = ap (λ (x : ℕ). x % g .words) (sym root-kept) ∙ w .height;
@@ -132,7 +132,7 @@ module _ {g : Layout} {b : List ℕ} {f : ℕ} (on : FileOn g b f) where
       }
 
       sized-file : FileCommit g b done f (spliced g b f o new m) extra gone
-      sized-file = written-commit g fit b done len f h k o m new extra gone written (w .fine)
+      sized-file = written-commit fit len written (w .fine)
 
       pub size-good : GoodTurn g b f (step ss a m) (spliced g b f o new m) extra gone
       unfolding step store committed
