@@ -168,6 +168,9 @@ module _ {g : Layout} {b : List ℕ} {f o : ℕ} {new : List ℕ} (w : Writing g
       commit-spot : Spot g c₁ f (sh .at)
       commit-spot = spot-same on shown-same (sh .at) lent-spot
 
+      address-same : rootAddress g b f ≡ rootAddress g c₁ f
+      address-same = same-address g fit b c₁ shown-same f (leaf-of g fit f file)
+
       committed-block : value / g .words ≡ top
       unfolding value
       committed-block = address-block (g .words) top low (mod-lt (getD b (sh .at) 0) pos)
@@ -186,12 +189,12 @@ module _ {g : Layout} {b : List ℕ} {f o : ℕ} {new : List ℕ} (w : Writing g
 
       root-hit : sh .at ≡ rootAddress g b f → root g done f ≡ value
       unfolding done
-      root-hit e = stored-root on₁ (sh .at) value commit-spot (e ∙ same-address g fit b c₁ shown-same f (leaf-of g fit f file))
+      root-hit e = stored-root on₁ (sh .at) value commit-spot (e ∙ address-same)
 
       root-else : sh .at ≢ rootAddress g b f → root g b f ≡ root g done f
       unfolding done
       root-else d = shown-same .roots f file (omega arith)
-          ∙ spot-root on₁ (sh .at) value commit-spot f file (λ e. d (sym e ∙ sym (same-address g fit b c₁ shown-same f (leaf-of g fit f file))))
+          ∙ spot-root on₁ (sh .at) value commit-spot f file (λ e. d (sym e ∙ sym address-same))
 
       len : length b ≡ length done
       unfolding done
@@ -207,7 +210,7 @@ module _ {g : Layout} {b : List ℕ} {f o : ℕ} {new : List ℕ} (w : Writing g
       size-kept : size g b f ≡ size g done f
       unfolding done sizeAddress
       size-kept = shown-same .sizes f file ∙ spot-size on₁ (sh .at) value commit-spot f file
-          (λ x. not-size (ap (λ (y : ℕ). y + 1) (same-address g fit b c₁ shown-same f (leaf-of g fit f file)) ∙ x))
+          (λ x. not-size (ap (λ (y : ℕ). y + 1) address-same ∙ x))
 
       root-low : root g done f % g .words ≡ root g b f % g .words
       unfolding root
