@@ -31,7 +31,7 @@ use Rattle.model.proofs.Splice.{Small, length-part, splice-small, splic
 use Rattle.model.specs.GivenUp.{pathBlocks, insideBlocks}
 use Rattle.model.proofs.Paths.{touched-new}
 use Rattle.model.proofs.Changed.{Changed, recount, kept, node}
-use Rattle.model.proofs.Built.{held, used, length-build, build-changed}
+use Rattle.model.proofs.Built.{Between, held, used, length-build, build-changed}
 use Rattle.model.proofs.Shown.{place-in-block}
 
 -- the block of a word at A
@@ -222,8 +222,7 @@ module _ (W : ℕ) (fresh : ℕ → ℕ) (b b₂ : List ℕ) (c lim : ℕ) where
     pub value : getD b₂ (sh .at) 0 / W ≡ fresh (c + length (sh .pages) - 1)
     pub low : sh .at ≢ a → getD b₂ (sh .at) 0 % W ≡ 0
 
-module _ (W : ℕ) (pos : 0 < W) (fresh : ℕ → ℕ) (b b₂ : List ℕ) (new : List ℕ) (some : 0 < length new) (small : Small new) (c lim : ℕ)
-    (nonzero : (i : ℕ) → i < lim → 0 < fresh i) (top : ℕ) (below : (i : ℕ) → i < lim → fresh i < top) where
+module _ (W : ℕ) (pos : 0 < W) (b b₂ : List ℕ) (new : List ℕ) (some : 0 < length new) (small : Small new) {fresh : ℕ → ℕ} {lim top : ℕ} (within : Between fresh lim top) (c : ℕ) where
   -- then the tree is changed. k₂ is its block on b₂: what its own pointer leads to there if that is the word replaced, else the old one
   abbrev Done : Shadow → ℕ → ℕ → ℕ → ℕ → ℕ → List ℕ → Type 0
   Done sh h k n o a given = Committed W fresh b b₂ c lim (length new) sh h k n o a → (k₂ : ℕ) → (sh .at ≡ a → k₂ ≡ getD b₂ a 0 / W) → (sh .at ≢ a → k₂ ≡ k)
@@ -234,7 +233,7 @@ module _ (W : ℕ) (pos : 0 < W) (fresh : ℕ → ℕ) (b b₂ : List ℕ) (new 
   stop h k n o a r k₂ own other =
       let len = length-build W pos b fresh h k n o new c in
       rw (own refl, r .value, len)
-      (build-changed W pos b fresh b₂ lim nonzero top below h k n o new c n (touched-new W h k n o (length new) some) (omega (arith, len, r .room)) small (r .holds)
+      (build-changed W pos b fresh b₂ within h k n o new c n (touched-new W h k n o (length new) some) (omega (arith, len, r .room)) small (r .holds)
       (frame W pos b b₂ h k n (λ q f t l. r .replaced .same q f t l (λ e. omega (arith, subst (λ (x : ℕ). 0 < occ x (blocks W b h k n)) (sym (block-of W q t a l e)) f, r .outside))))
       (omega arith) (omega (arith, r .within)) (λ u. r .within) (λ i u w l. absurd (omega arith)))
 

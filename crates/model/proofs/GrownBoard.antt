@@ -104,7 +104,7 @@ module _ {g : Layout} {b : List ℕ} {f e : ℕ} (w : Growing g b f e) {fresh : 
       let reaches : e ≤ span W h = least-reaches W pos (g .height) e (w .most) in
       let higher : root g b f % W < h = elim (split h (root g b f % W)) [ inl u ↦ absurd (omega (arith, w .more, span-mono W pos h (root g b f % W) u)) | inr u ↦ u ] in
       rw (growth-height w supply room, growth-top w supply room, lt-ltb o (span W h) (omega (arith, some, reaches)))
-      (top-past W pos c fresh lim (supply .nonzero) h (root g b f / W) (h - root g b f % W) (size g c f) o (omega arith) room (growth-held w supply room)
+      (top-past W pos c fresh lim (supply .between .nonzero) h (root g b f / W) (h - root g b f % W) (size g c f) o (omega arith) room (growth-held w supply room)
       (λ x u. word-past W x o e some word (least-least W pos (g .height) e x u)) (omega arith) (omega (arith, some, reaches)))
 
   larger-board : GrownBoard g fresh b (performed b (concat (planEpochs (growthTo g fresh b f h .steps)))) f o e

@@ -194,7 +194,7 @@ module _ {g : Layout} {b : List ℕ} {f e : ℕ} (w : Growing g b f e) {fresh : 
     tree-grown =
         let reached : root g b f % g .words + (h - root g b f % g .words) ≡ h = omega (arith, higher) in
         rw block-done (subst (λ (x : ℕ). Grown (g .words) b done (blockCount g b - 1) (root g b f % g .words) (root g b f / g .words) x top (size g b f) (λ q. used fresh q 0 (length ps))) reached
-        (grown (g .words) pos b done (blockCount g b - 1) fresh lim (supply .nonzero) (supply .below) (root g b f % g .words) (root g b f / g .words) (size g b f) (h - root g b f % g .words) (w .live) (omega (arith, fits)) held-done tree-stays))
+        (grown (g .words) pos b done (supply .between) (root g b f % g .words) (root g b f / g .words) (size g b f) (h - root g b f % g .words) (w .live) (omega (arith, fits)) held-done tree-stays))
 
     file-grown : FileCommit g b done f (contents g b f) (λ q. used fresh q 0 (length ps)) (λ q. 0)
     file-grown = grown-commit g fit b done len f h (λ q. used fresh q 0 (length ps)) (w .live) size-done height-done low-enough tree-grown (accepted-parts g b board .files-sound f file)
@@ -280,8 +280,7 @@ module _ {g : Layout} {b : List ℕ} {f e : ℕ} (w : Growing g b f e) {fresh : 
     pub growth-supply : Supply g (committed b (growthStep g fresh b f h)) fresh (growthTo g fresh b f h .taken) lim
     unfolding step store committed done c₁ value growthTo plan
     growth-supply = record {
-      nonzero = supply .nonzero;
-      below = λ i l. rw (← (count-kept g b done len)) (supply .below i l);
+      between = rw (count-kept g b done len) at (supply .between);
       apart = supply .apart;
       spare = λ i u l. omega (arith, counts-done (fresh i), supply .spare i (omega arith) l, used-none fresh (fresh i) 0 (length ps) (λ j v w x. supply .apart j i (omega arith) l (sym x)));
     }

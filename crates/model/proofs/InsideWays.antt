@@ -250,7 +250,7 @@ module _ {g : Layout} {b : List ℕ} {f o : ℕ} {new : List ℕ} (w : Writing g
         low = ok .low f file (omega arith);
         most = ok .most f file;
         past = past-span o new (span (g .words) (root g b f % g .words)) (size g b f) under;
-        change = descend-changed (g .words) pos fresh b done new some (w .small) c lim (supply .nonzero) (blockCount g b - 1) (supply .below)
+        change = descend-changed (g .words) pos b done new some (w .small) (supply .between) c
             (root g b f % g .words) (root g b f / g .words) (size g b f) o (rootAddress g b f) ready (root g done f / g .words)
             (λ e. ap (λ (x : ℕ). x / g .words) (root-hit e ∙ sym commits ∙ ap (λ (x : ℕ). getD done x 0) e))
             (λ d. ap (λ (x : ℕ). x / g .words) (sym (root-else d)));

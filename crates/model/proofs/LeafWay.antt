@@ -202,7 +202,7 @@ module _ {g : Layout} {b : List ℕ} {f o : ℕ} {new : List ℕ} (w : Writing g
   leaf-stays l u d = leaf-kept g b b₂ len l (pointer-stays l u d)
 
   copied-in : Ranged g b₂ copied
-  copied-in = rw (← (count-kept g b b₂ len)) (supply .nonzero (c + length ps) (omega arith), supply .below (c + length ps) (omega arith))
+  copied-in = rw (← (count-kept g b b₂ len)) (supply .between .nonzero (c + length ps) (omega arith), supply .between .below (c + length ps) (omega arith))
 
   leaf-new-sound : T (leafSound g b₂ l₀)
   unfolding leafSound
@@ -275,7 +275,7 @@ module _ {g : Layout} {b : List ℕ} {f o : ℕ} {new : List ℕ} (w : Writing g
       let count : freshNeed (g .words) b (root g b f % g .words) (root g b f / g .words) (size g b f) o (length new) ≡ length ps = sym (length-build (g .words) pos b fresh (root g b f % g .words) (root g b f / g .words) (size g b f) o new c) in
       rw block-new (subst
       (λ (x : ℕ). Changed (g .words) b b₂ (blockCount g b - 1) (root g b f % g .words) (root g b f / g .words) (fresh (c + x - 1)) (size g b f) m o new (λ q. used fresh q c x) (λ q. occ q path)) count
-      (build-changed (g .words) pos b fresh b₂ lim (supply .nonzero) (blockCount g b - 1) (supply .below) (root g b f % g .words) (root g b f / g .words) (size g b f) o new c m
+      (build-changed (g .words) pos b fresh b₂ (supply .between) (root g b f % g .words) (root g b f / g .words) (size g b f) o new c m
       (touched-new (g .words) (root g b f % g .words) (root g b f / g .words) (size g b f) o (length new) some) (omega (arith, count)) (w .small) tree-held (tree-stays f file) (omega arith) (omega arith) (λ u. omega arith) reach))
 
   written : Written g b b₂ f (root g b f % g .words) (root g b f / g .words) o m new (λ q. used fresh q c (length ps)) (λ q. occ q path)

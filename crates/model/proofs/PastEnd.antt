@@ -12,7 +12,7 @@ use Rattle.model.specs.declared.WalkEnd.the-variants.{Hole}
 use Rattle.model.specs.Lists.{member}
 use Rattle.model.specs.Layout.{Layout}
 use Rattle.model.specs.Tree.{live, span, least}
-use Rattle.model.specs.Board.{rootWalk, root, size, sizeAddress, inodeOf, walkTo, contents, free}
+use Rattle.model.specs.Board.{blockCount, rootWalk, root, size, sizeAddress, inodeOf, walkTo, contents, free}
 use Rattle.model.specs.Store.{performed, stores, fenced}
 use Rattle.model.specs.Plan.{Plan, plan, planEpochs, afterwards, pairs}
 use Rattle.model.specs.Fresh.{freshNeed, need, build}
@@ -25,7 +25,7 @@ use Rattle.model.proofs.Cases.{split, or-left, or-right}
 use Rattle.model.proofs.Epochs.{planned-either}
 use Rattle.model.proofs.Trees.{live-some, walk-dead}
 use Rattle.model.proofs.Paths.{touched-new, fresh-quiet}
-use Rattle.model.proofs.Built.{length-build, length-build-null}
+use Rattle.model.proofs.Built.{Between, length-build, length-build-null}
 use Rattle.model.proofs.PastTree.{Laid, laid-holes, laid-path, laid-arrives}
 use Rattle.model.proofs.Shown.{words-pos}
 use Rattle.model.proofs.Supplied.{Supply, supply-order, lowest-rule}
@@ -95,7 +95,7 @@ module _ {g : Layout} {b : List ℕ} {f o : ℕ} {new : List ℕ} (w : Writing g
       record {
         copied = λ l. absurd (omega arith);
         arrives = λ x. absurd (rw (empty-hole z (size g b f - 1)) at x);
-        holes = rw (high, block, z, ← count) (laid-holes W pos b fresh _ lim (supply .nonzero) h 0 0 o new c (record {
+        holes = rw (high, block, z, ← count) (laid-holes W pos b _ (supply .between) {h = h} {k = 0} {n = 0} {new = new} (record {
           test = touched-new W h 0 0 o (length new) some;
           room-for = omega (arith, count, len);
           pages = empty-held (w .on) w some z supply room;
@@ -117,17 +117,17 @@ module _ {g : Layout} {b : List ℕ} {f o : ℕ} {new : List ℕ} (w : Writing g
       leaf-block w some l (omega arith) under supply room ∙ ap (λ (x : ℕ). fresh (c + x - 1)) len in
       let now = leaf-size w some l (omega arith) under supply room in
       let end : ℕ = c + length (treePages g fresh b f o new c) + 1 in
-      let there : (i : ℕ) → i < end → 0 < fresh i = λ i u. supply .nonzero i (omega arith) in
-      let laid : Laid W pos b fresh b′ end there h k n o new c = record {
+      let there : Between fresh end (blockCount g b - 1) = record { nonzero = λ i u. supply .between .nonzero i (omega arith); below = λ i u. supply .between .below i (omega arith) } in
+      let laid : Laid W pos b b′ there h k n o new c = record {
         test = touched-new W h k n o (length new) some;
         room-for = omega (arith, len);
         pages = leaf-held w some l (omega arith) under supply room;
       } in
       record {
-        copied = λ z. rw (high, block) (laid-path W pos b fresh b′ end there (λ q. member q taken) c among h k n o new c (omega arith) laid l (omega arith) past);
+        copied = λ z. rw (high, block) (laid-path W pos b b′ there (λ q. member q taken) c among laid (omega arith) l (omega arith) past);
         arrives = λ x. rw (high, block, now, lt-ltb (n - 1) (span W h) within)
-            (laid-arrives W pos b fresh b′ end there h k n o new c _ laid l (omega arith) past (omega arith) (rw (lt-ltb (n - 1) (span W h) within) at x));
-        holes = rw (high, block) (laid-holes W pos b fresh b′ end there h k n o new c laid (λ z. past));
+            (laid-arrives W pos b b′ there _ laid l (omega arith) past (omega arith) (rw (lt-ltb (n - 1) (span W h) within) at x));
+        holes = rw (high, block) (laid-holes W pos b b′ there laid (λ z. past));
       }
 
   way-past : Past (way g fresh b f o new c past)

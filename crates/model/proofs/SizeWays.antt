@@ -304,7 +304,7 @@ module _ {g : Layout} {b : List ℕ} {f : ℕ} (on : FileOn g b f) where
             low = ok .low f file live;
             most = w .most;
             past = past-span (size g b f) new (span (g .words) (root g b f % g .words)) (size g b f + length new) under;
-            change = rw (← tail-root) (tail-changed (g .words) pos b (performed b tail-epoch) fresh lim (supply .nonzero) (blockCount g b - 1) (supply .below)
+            change = rw (← tail-root) (tail-changed (g .words) pos b (performed b tail-epoch) (supply .between)
                 (root g b f % g .words) (root g b f / g .words) (size g b f) (size g b f + length new) new c (rootAddress g b f) live (record {
                   grows = omega arith;
                   fits = omega arith;
@@ -391,7 +391,7 @@ module _ {g : Layout} {b : List ℕ} {f : ℕ} (on : FileOn g b f) where
         low = least-within (g .words) pos (g .height) (o + length new);
         most = w .most;
         past = past-span o new (span (g .words) h) (o + length new) (omega (arith, least-reaches (g .words) pos (g .height) (o + length new) (w .most)));
-        change = rw (ap (λ (x : ℕ). x / g .words) root-is ∙ hook-block, empty) (build-null-changed (g .words) pos b fresh (performed b first-epoch) lim (supply .nonzero) (blockCount g b - 1) (supply .below)
+        change = rw (ap (λ (x : ℕ). x / g .words) root-is ∙ hook-block, empty) (build-null-changed (g .words) pos b fresh (performed b first-epoch) (supply .between)
             h o new c (o + length new) filled (rw (← first-taken) room) (w .small) (held-of-all (g .words) fresh (performed b first-epoch) pages c pages-stand) (omega arith) (λ i u v l. omega arith));
         fine = rw (sound-null (g .words) b (blockCount g b - 1) h (size g b f)) tt;
         spare = λ q. rw (← first-taken) (supply-once supply (ok .once) (length pages) room q);
