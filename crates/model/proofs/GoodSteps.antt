@@ -70,7 +70,7 @@ pub record StepTo (g : Layout) (touched : ℕ → Bool) (b : List ℕ) (p : Step
 abbrev pub theFile : ℕ → ℕ → Bool
 theFile f e = eqb e f
 
-module _ (g : Layout) (b : List ℕ) (f : ℕ) (p : Step) (wanted : List ℕ) (s : GoodStep g b f p wanted) where
+module _ {g : Layout} {b : List ℕ} {f : ℕ} {p : Step} {wanted : List ℕ} (s : GoodStep g b f p wanted) where
   good-walks : Stays g (theFile f) b (committed b p)
   good-walks e u z = s .outcome .kept e u (λ same. false≢true (sym z ∙ eq-eqb e f same)) .walks
 
@@ -98,8 +98,8 @@ module _ (g : Layout) (b : List ℕ) (f : ℕ) (p : Step) (wanted : List ℕ) (s
     reads = λ e u. elim (decide e f) [ inl z ↦ rw z (s .outcome .reads ∙ quiet) | inr n ↦ s .outcome .kept e u n .reads ];
   }
 
-pub step-safe : (g : Layout) (touched : ℕ → Bool) (b : List ℕ) (p : Step) (wanted : ℕ → List ℕ) (At : ℕ → Type 0) → StepTo g touched b p wanted At → SafeStep g touched b p
-step-safe g touched b p wanted At s = record { hides = all-holds (hidden g b) (p .hidden) (s .hides); accepts = s .board; walks = s .walks }
+pub step-safe : {g : Layout} {touched : ℕ → Bool} {b : List ℕ} {p : Step} {wanted : ℕ → List ℕ} {At : ℕ → Type 0} → StepTo g touched b p wanted At → SafeStep g touched b p
+step-safe {g} {b = b} {p} s = record { hides = all-holds (hidden g b) (p .hidden) (s .hides); accepts = s .board; walks = s .walks }
 
 -- Steps each good on the board that those before it leave, the last making each file read as wanted, those before leaving all as they read. The last may
 -- be committed where Last allows it, those before in blocks 1 to B − 2

@@ -10,7 +10,7 @@ use native.Mathlib.Nat.{mod-eq-of-lt, mul-add-mod-self-left, zero-add}
 use lib.ListN.{length, set, length-set}
 use borrow.Author.Tests.{lt-ltb, le-ltb}
 use Rattle.model.specs.Lists.{concat, occ}
-use Rattle.model.specs.Layout.{Layout, Fits, files}
+use Rattle.model.specs.Layout.{Layout, files}
 use Rattle.model.specs.Tree.{live, span, least}
 use Rattle.model.specs.Board.{rootWalk, rootBlocks, greatest, blockCount, inodeBlock, rootAddress, sizeAddress, root, size, walkTo, contents, fileBlocks, liveBlocks}
 use Rattle.model.specs.Store.{Store, store, performed}
@@ -76,17 +76,16 @@ module _ {g : Layout} {b : List ℕ} {f o : ℕ} {new : List ℕ} (w : Writing g
     ]
   ]
 
-module _ (g : Layout) (fit : Fits g) (fresh : ℕ → ℕ) (b : List ℕ) (f h : ℕ) where
-  pub growth-takes : f < files g → Takes g b fresh 0 (growthTo g fresh b f h .taken) (growthStep g fresh b f h)
-  unfolding growthTo plan step store All
-  growth-takes f-lt = record {
-    pages = growthPages g fresh b f h;
-    others = [];
-    is = sym (append-nil (stored (g .words) fresh (growthPages g fresh b f h) 0));
-    count = sym (zero-add (length (growthPages g fresh b f h)));
-    others-live = tt;
-    commit-live = rw (root-block g fit b f) (leaf-live g b (f / g .inodes) (leaf-of g fit f f-lt));
-  }
+pub growth-takes : {g : Layout} {b : List ℕ} {f : ℕ} → FileOn g b f → (fresh : ℕ → ℕ) (h : ℕ) → Takes g b fresh 0 (growthTo g fresh b f h .taken) (growthStep g fresh b f h)
+unfolding growthTo plan step store All
+growth-takes {g} {b} {f} on fresh h = record {
+  pages = growthPages g fresh b f h;
+  others = [];
+  is = sym (append-nil (stored (g .words) fresh (growthPages g fresh b f h) 0));
+  count = sym (zero-add (length (growthPages g fresh b f h)));
+  others-live = tt;
+  commit-live = rw (root-block g (on .fit) b f) (leaf-live g b (f / g .inodes) (leaf-of g (on .fit) f (on .file)));
+}
 
 -- ---- The step
 

@@ -54,15 +54,15 @@ module _ (g : Layout) (fresh : ℕ → ℕ) (b : List ℕ) (f o : ℕ) (new : Li
   abbrev pub leafStep : Step
   leafStep = step (stored (g .words) fresh shadowPages c) (g .words * inodeBlock g b + f / g .inodes) (g .words * fresh (c + length treePages))
 
-  pub leaf-takes : Fits g → f < files g → Takes g b fresh c (c + length treePages + 1) leafStep
+  pub leaf-takes : FileOn g b f → Takes g b fresh c (c + length treePages + 1) leafStep
   unfolding step store All
-  leaf-takes fit f-lt = record {
+  leaf-takes on = record {
     pages = shadowPages;
     others = [];
     is = sym (append-nil (stored (g .words) fresh shadowPages c));
     count = omega (arith, length-append treePages (leafPage (g .words) b (rootAddress g b f) newRoot (max (size g b f) (o + length new)) ∷ []));
     others-live = tt;
-    commit-live = rw (address-block (g .words) (inodeBlock g b) (f / g .inodes) (omega (arith, leaf-of g fit f f-lt, fit .leaves-fit))) (inode-live g b);
+    commit-live = rw (address-block (g .words) (inodeBlock g b) (f / g .inodes) (omega (arith, leaf-of g (on .fit) f (on .file), on .fit .leaves-fit))) (inode-live g b);
   }
 
 -- ---- The copy of the leaf

@@ -50,41 +50,37 @@ pub record GoodPlan (g : Layout) (b : List ℕ) (f : ℕ) (fresh : ℕ → ℕ) 
 pub some-of-product : (w a u : ℕ) → 0 < w → a ≡ w * u → (0 < a) ↔ (0 < u)
 some-of-product w a u pos e = (λ l. elim (split u 0) [ inl z ↦ let z′ : u ≡ 0 = omega arith in absurd (omega (arith, rw z′ at e, mul-zero w)) | inr k ↦ k ], λ l. rw e (mul-pos pos l))
 
-module _ (g : Layout) (fit : Fits g) (b : List ℕ) (f : ℕ) (wanted given : List ℕ) where
+-- an empty plan
+none-good : (g : Layout) (b : List ℕ) (f : ℕ) (fresh : ℕ → ℕ) (wanted : List ℕ) → contents g b f ≡ wanted → GoodPlan g b f fresh wanted [] (plan [] 0)
+unfolding plan GoodSteps planEpochs concat occ used sum allCommitted
+none-good g b f fresh wanted e = record {
+  steps-good = λ i u. elim (decide i f) [ inl z ↦ rw (z, only-file f wanted (contents g b)) e | inr n ↦ rw (only-others f wanted (contents g b) i n) ];
+  takes = λ q z. (λ l. l, λ l. l);
+  lives = λ q. refl;
+}
+
+module _ {g : Layout} (fit : Fits g) {f : ℕ} {fresh : ℕ → ℕ} {wanted given : List ℕ} {p : Plan} where
   -- how often one step stores to a block that is not live
-  one-blocks : (fresh : ℕ → ℕ) (c : ℕ) (p : Plan) → OneStep g b f fresh c wanted given p → (q : ℕ) → occ q (liveBlocks g b) ≡ 0
+  one-blocks : {b : List ℕ} {c : ℕ} → OneStep g b f fresh c wanted given p → (q : ℕ) → occ q (liveBlocks g b) ≡ 0
       → occ q (blocksOf g (concat (planEpochs (p .steps)))) ≡ g .words * used fresh q c (p .taken - c)
   unfolding planEpochs concat occ
-  one-blocks fresh c p w q z = rw (w .steps-are) (omega (arith, steps-blocks g (words-pos g fit) fresh q (w .only) [], takes-blocks g (words-pos g fit) fresh q b c (p .taken) (w .only) (w .takes) z))
+  one-blocks {b} {c} w q z = rw (w .steps-are) (omega (arith, steps-blocks g (words-pos g fit) fresh q (w .only) [], takes-blocks g (words-pos g fit) fresh q b c (p .taken) (w .only) (w .takes) z))
 
-module _ (g : Layout) (fit : Fits g) (b : List ℕ) (f : ℕ) (fresh : ℕ → ℕ) (wanted : List ℕ) where
-  pos : 0 < g .words
-  pos = words-pos g fit
-
-  -- an empty plan
-  none-good : contents g b f ≡ wanted → GoodPlan g b f fresh wanted [] (plan [] 0)
-  unfolding plan GoodSteps planEpochs concat occ used sum allCommitted
-  none-good e = record {
-    steps-good = λ i u. elim (decide i f) [ inl z ↦ rw (z, only-file f wanted (contents g b)) e | inr n ↦ rw (only-others f wanted (contents g b) i n) ];
-    takes = λ q z. (λ l. l, λ l. l);
-    lives = λ q. refl;
-  }
-
-  one-plan : (given : List ℕ) (p : Plan) → OneStep g b f fresh 0 wanted given p → GoodPlan g b f fresh wanted given p
+  one-plan : {b : List ℕ} → OneStep g b f fresh 0 wanted given p → GoodPlan g b f fresh wanted given p
   unfolding GoodSteps allCommitted
-  one-plan given p w = record {
-    steps-good = rw (w .steps-are) (step-one g b f (w .only) wanted (w .good));
-    takes = λ q z. some-of-product (g .words) _ (used fresh q 0 (p .taken)) pos (rw sub-zero at (one-blocks g fit b f wanted given fresh 0 p w q z));
+  one-plan w = record {
+    steps-good = rw (w .steps-are) (step-one (w .good));
+    takes = λ q z. some-of-product (g .words) _ (used fresh q 0 (p .taken)) (words-pos g fit) (rw sub-zero at (one-blocks w q z));
     lives = λ q. rw (w .steps-are) (rw sub-zero at (w .lives q));
   }
 
   -- a step that leaves the file as it reads and takes k blocks, and a plan of one step that takes the next
-  two-plan : (s : Step) (k : ℕ) → GoodStep g b f s (contents g b f) → Takes g b fresh 0 k s
+  two-plan : {b : List ℕ} {s : Step} {k : ℕ} → GoodStep g b f s (contents g b f) → Takes g b fresh 0 k s
       → ((q : ℕ) → occ q (liveBlocks g (committed b s)) ≡ occ q (liveBlocks g b) + used fresh q 0 k)
-      → (given : List ℕ) (p : Plan) → OneStep g (committed b s) f fresh k wanted given p → k ≤ p .taken → GoodPlan g b f fresh wanted given (plan (s ∷ p .steps) (p .taken))
+      → OneStep g (committed b s) f fresh k wanted given p → k ≤ p .taken → GoodPlan g b f fresh wanted given (plan (s ∷ p .steps) (p .taken))
   unfolding plan GoodSteps allCommitted
-  two-plan s k first takes counts given p w le = record {
-    steps-good = rw (w .steps-are) (step-quiet g b f s (contents g b f) first refl, second (step-one g (committed b s) f (w .only) wanted (w .good)));
+  two-plan {b} {s} {k} first takes counts w le = record {
+    steps-good = rw (w .steps-are) (step-quiet first refl, second (step-one (w .good)));
     lives = λ q.
         let total : used fresh q 0 (p .taken) ≡ used fresh q 0 k + used fresh q k (p .taken - k) =
         ap (used fresh q 0) (omega arith) ∙ used-add fresh q 0 k (p .taken - k) ∙ ap (λ (x : ℕ). used fresh q 0 k + used fresh q x (p .taken - k)) (zero-add k) in
@@ -92,16 +88,16 @@ module _ (g : Layout) (fit : Fits g) (b : List ℕ) (f : ℕ) (fresh : ℕ → �
     takes = λ q z.
         let total : used fresh q 0 (p .taken) ≡ used fresh q 0 k + used fresh q k (p .taken - k) =
         ap (used fresh q 0) (omega arith) ∙ used-add fresh q 0 k (p .taken - k) ∙ ap (λ (x : ℕ). used fresh q 0 k + used fresh q x (p .taken - k)) (zero-add k) in
-        let own : occ q (blocksOf g (s .hidden ++ (s .commit ∷ []))) ≡ g .words * used fresh q 0 k = rw sub-zero at (takes-blocks g pos fresh q b 0 k s takes z) in
-        let both = steps-blocks g pos fresh q s (p .steps) in
+        let own : occ q (blocksOf g (s .hidden ++ (s .commit ∷ []))) ≡ g .words * used fresh q 0 k = rw sub-zero at (takes-blocks g (words-pos g fit) fresh q b 0 k s takes z) in
+        let both = steps-blocks g (words-pos g fit) fresh q s (p .steps) in
         elim (split (used fresh q 0 k) 0) [
           | inl none ↦
               let zero-own : used fresh q 0 k ≡ 0 = omega arith in
               let same : used fresh q 0 (p .taken) ≡ used fresh q k (p .taken - k) = omega (arith, total) in
               let none-own : occ q (blocksOf g (s .hidden ++ (s .commit ∷ []))) ≡ 0 = own ∙ rw (zero-own, mul-zero (g .words)) in
-              some-of-product (g .words) _ (used fresh q 0 (p .taken)) pos
-              (rw same (omega (arith, both, none-own, one-blocks g fit (committed b s) f wanted given fresh k p w q (omega (arith, counts q, z)))))
-          | inr more ↦ (λ l. omega (arith, total), λ l. omega (arith, both, own, mul-pos pos more))
+              some-of-product (g .words) _ (used fresh q 0 (p .taken)) (words-pos g fit)
+              (rw same (omega (arith, both, none-own, one-blocks w q (omega (arith, counts q, z)))))
+          | inr more ↦ (λ l. omega (arith, total), λ l. omega (arith, both, own, mul-pos (words-pos g fit) more))
         ];
   }
     where
@@ -140,7 +136,7 @@ module _ {g : Layout} {b : List ℕ} {f : ℕ} (on : FileOn g b f) (n : ℕ) (mo
       → GoodTurn g b f (step ss (sizeAddress g b f) n) wanted (λ q. 0) (λ q. occ q given)
       → GoodPlan g b f fresh (lengthened g fit b f n) given (plan (step ss (sizeAddress g b f) n ∷ []) 0)
   unfolding plan step store stored used sum
-  sized-plan ss wanted given is lives s = one-plan g fit b f fresh (lengthened g fit b f n) given (plan (step ss (sizeAddress g b f) n ∷ []) 0) (record {
+  sized-plan ss wanted given is lives s = one-plan fit (record {
     only = step ss (sizeAddress g b f) n;
     steps-are = refl;
     good = rw is at (s .good);
@@ -169,7 +165,7 @@ module _ {g : Layout} {b : List ℕ} {f : ℕ} (on : FileOn g b f) (n : ℕ) (mo
   pub length-good : GoodPlan g b f fresh (take n (contents g b f) ++ replicate (n - length (contents g b f)) 0) (lengthGives g b f n) (lengthPlan g b f n)
   unfolding lengthPlan lengthGives All
   length-good = elim (decide n (size g b f)) [
-    | inl e ↦ rw (eq-eqb n (size g b f) e, le-ltb n (size g b f) (omega arith)) (none-good g fit b f fresh (lengthened g fit b f n) (nothing e))
+    | inl e ↦ rw (eq-eqb n (size g b f) e, le-ltb n (size g b f) (omega arith)) (none-good g b f fresh (lengthened g fit b f n) (nothing e))
     | inr d ↦ elim (split (size g b f) n) [
       | inl more ↦ rw (ne-eqb n (size g b f) d, le-ltb n (size g b f) more) (lengthen-plan more)
       | inr less ↦ rw (ne-eqb n (size g b f) d, lt-ltb n (size g b f) less) (sized-plan [] _ _ (spliced-cuts g fit b f n (omega arith)) tt (shorten-good on n (omega arith) (omega arith)))
@@ -210,7 +206,7 @@ module _ {g : Layout} {b : List ℕ} {f o : ℕ} {new : List ℕ} (w : Writing g
   ]
 
   single-plan : (K : ℕ) → singleBlock g b f o e ≡ Block K → Wanted (singleWord g b K o new) []
-  single-plan K is room = one-plan g fit b f fresh wanted [] (singleWord g b K o new) (single-way w some (single-reach K is) supply refl K is room)
+  single-plan K is room = one-plan fit (single-way w some (single-reach K is) supply refl K is room)
 
   -- no growth
   pub still-plan : growing g b f e ≡ false → grownPlan g fresh b f o new ≡ way b 0
@@ -222,7 +218,7 @@ module _ {g : Layout} {b : List ℕ} {f o : ℕ} {new : List ℕ} (w : Writing g
   still-gives still = rw still
 
   no-growth : growing g b f e ≡ false → Spanned g b f e → Wanted (grownPlan g fresh b f o new) (someGives g fresh b f Hole o new)
-  no-growth still reach = rw (still-plan still, still-gives still) (λ room. one-plan g fit b f fresh wanted (gives b) (way b 0) (way-good w some reach supply room))
+  no-growth still reach = rw (still-plan still, still-gives still) (λ room. one-plan fit (way-good w some reach supply room))
 
   -- growth
   module _ (grow : Growing g b f e) where
@@ -260,7 +256,7 @@ module _ {g : Layout} {b : List ℕ} {f o : ℕ} {new : List ℕ} (w : Writing g
       unfolding growthTo plan afterwards
       after-growth room =
           let first : GoodStep g b f g-step (contents g b f) = growth-good grow supply enough in
-          two-plan g fit b f fresh wanted g-step (p .taken) first (growth-takes g fit fresh b f (least (g .words) (g .height) e) (w .on .file)) (growth-counts grow supply enough) (gives c) (way c (p .taken))
+          two-plan fit first (growth-takes (w .on) fresh (least (g .words) (g .height) e)) (growth-counts grow supply enough)
           (rw (← (first .outcome .reads)) (way-good grown-writing some (λ l. growth-reaches grow supply enough) (growth-supply grow supply enough) room))
           (taken-from g fresh c (inodeOf g c f) o new (p .taken))
 
@@ -277,5 +273,5 @@ module _ {g : Layout} {b : List ℕ} {f o : ℕ} {new : List ℕ} (w : Writing g
 pub write-good : {g : Layout} {b : List ℕ} {f o : ℕ} {new : List ℕ} → Writing g b f o new → {fresh : ℕ → ℕ} {lim : ℕ} → Supply g b fresh 0 lim → writePlan g fresh b f o new .taken ≤ lim
     → GoodPlan g b f fresh (overwritten o new (contents g b f)) (writeGives g fresh b f o new) (writePlan g fresh b f o new)
 unfolding writePlan writeGives plan overwritten
-write-good {g} {b} {f} {o} {new = []} w {fresh} supply room = none-good g (w .on .fit) b f fresh _ refl
+write-good {g} {b} {f} {o} {new = []} w {fresh} supply room = none-good g b f fresh _ refl
 write-good {g} {b} {f} {o} {new = x ∷ new} w supply room = write-some w supply (omega arith) (singleBlock g b f o (o + suc (length new))) refl room

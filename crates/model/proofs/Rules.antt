@@ -52,8 +52,8 @@ module _ (g : Layout) (touched : ℕ → Bool) (wanted : ℕ → List ℕ) (Last
   pub good-safe-steps : (b : List ℕ) (ps : List Step) → GoodSteps g touched b ps wanted Last → SafeSteps g touched b ps
   unfolding GoodSteps SafeSteps
   good-safe-steps b [] s = tt
-  good-safe-steps b (p ∷ []) s = one-step g touched b p (step-safe g touched b p wanted Last s)
-  good-safe-steps b (p ∷ q ∷ ps) s = (step-safe g touched b p (contents g b) (InBlocks g b) (s .0), λ l. s .0 .reads, good-safe-steps (committed b p) (q ∷ ps) (s .1))
+  good-safe-steps b (p ∷ []) s = one-step g touched b p (step-safe s)
+  good-safe-steps b (p ∷ q ∷ ps) s = (step-safe (s .0), λ l. s .0 .reads, good-safe-steps (committed b p) (q ∷ ps) (s .1))
 
   pub good-reads : (b : List ℕ) (ps : List Step) → GoodSteps g touched b ps wanted Last → Reads g (allCommitted b ps) wanted
   unfolding GoodSteps allCommitted

@@ -209,7 +209,7 @@ module _ {g : Layout} {b : List ℕ} {f o : ℕ} {new : List ℕ} (w : Writing g
   leaf-way : 0 < size g b f → size g b f < o + length new → Good (shadowWithLength g fresh b inode o new c)
       (rootAddress g b f / g .words ∷ pathBlocks (g .words) b (root g b f % g .words) (root g b f / g .words) (size g b f) o (length new))
   unfolding shadowWithLength plan
-  leaf-way l m room = one-good _ (max (size g b f) (o + length new)) _ _ _ _ refl (leaf-good w some l m (reach l) supply room) (leaf-takes g fresh b f o new c fit file)
+  leaf-way l m room = one-good _ (max (size g b f) (o + length new)) _ _ _ _ refl (leaf-good w some l m (reach l) supply room) (leaf-takes g fresh b f o new c (w .on))
       (λ q. (ap (used fresh q c) (omega arith), ap (λ (x : ℕ). occ q (x ∷ pathBlocks (g .words) b (root g b f % g .words) (root g b f / g .words) (size g b f) o (length new))) (sym (root-block g fit b f))))
 
   -- whichever it is
