@@ -228,8 +228,7 @@ module _ {g : Layout} {b : List ℕ} {f e : ℕ} (w : Growing g b f e) {fresh : 
     -- the inode is where it was
     pub growth-inode : inodeBlock g (committed b (growthStep g fresh b f h)) ≡ inodeBlock g b
     unfolding step store committed done c₁ value
-    growth-inode = sym (inode-kept g b done len fit
-        (λ j l. shown-same .trailers j l ∙ spot-trailer on₁ (rootAddress g b f) value commit-spot j l))
+    growth-inode = sym (inode-kept g b done len fit (λ j l. shown-same .trailers j l ∙ spot-trailer on₁ (rootAddress g b f) value commit-spot j l))
 
     -- and every file's
     pub growth-addresses : (i : ℕ) → i < files g → rootAddress g b i ≡ rootAddress g (committed b (growthStep g fresh b f h)) i

@@ -193,8 +193,7 @@ module _ {g : Layout} {b : List ℕ} {f o : ℕ} {new : List ℕ} (w : Writing g
 
       root-else : sh .at ≢ rootAddress g b f → root g b f ≡ root g done f
       unfolding done
-      root-else d = shown-same .roots f file (omega arith)
-          ∙ spot-root on₁ (sh .at) value commit-spot f file (λ e. d (sym e ∙ sym address-same))
+      root-else d = shown-same .roots f file (omega arith) ∙ spot-root on₁ (sh .at) value commit-spot f file (λ e. d (sym e ∙ sym address-same))
 
       len : length b ≡ length done
       unfolding done
@@ -209,8 +208,7 @@ module _ {g : Layout} {b : List ℕ} {f o : ℕ} {new : List ℕ} (w : Writing g
 
       size-kept : size g b f ≡ size g done f
       unfolding done sizeAddress
-      size-kept = shown-same .sizes f file ∙ spot-size on₁ (sh .at) value commit-spot f file
-          (λ x. not-size (ap (λ (y : ℕ). y + 1) address-same ∙ x))
+      size-kept = shown-same .sizes f file ∙ spot-size on₁ (sh .at) value commit-spot f file (λ x. not-size (ap (λ (y : ℕ). y + 1) address-same ∙ x))
 
       root-low : root g done f % g .words ≡ root g b f % g .words
       unfolding root
@@ -252,8 +250,7 @@ module _ {g : Layout} {b : List ℕ} {f o : ℕ} {new : List ℕ} (w : Writing g
         past = past-span o new (span (g .words) (root g b f % g .words)) (size g b f) under;
         change = descend-changed (g .words) pos b done new some (w .small) (supply .between) c
             (root g b f % g .words) (root g b f / g .words) (size g b f) o (rootAddress g b f) ready (root g done f / g .words)
-            (λ e. ap (λ (x : ℕ). x / g .words) (root-hit e ∙ sym commits ∙ ap (λ (x : ℕ). getD done x 0) e))
-            (λ d. ap (λ (x : ℕ). x / g .words) (sym (root-else d)));
+            (λ e. ap (λ (x : ℕ). x / g .words) (root-hit e ∙ sym commits ∙ ap (λ (x : ℕ). getD done x 0) e)) (λ d. ap (λ (x : ℕ). x / g .words) (sym (root-else d)));
       }
 
       inside-file : FileCommit g b done f (spliced g b f o new (size g b f)) (λ q. used fresh q c (length (sh .pages))) (λ q. occ q given)

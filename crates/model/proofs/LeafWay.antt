@@ -184,8 +184,7 @@ module _ {g : Layout} {b : List ℕ} {f o : ℕ} {new : List ℕ} (w : Writing g
   -- the inode pointers
   pointer-stays : (l : ℕ) → l < g .leaves → l ≢ l₀ → inodePointer g b l ≡ inodePointer g b₂ l
   unfolding inodePointer cell b₂ c₁
-  pointer-stays l u d =
-      stored-keeps supply pages pages-room (inodeBlock g b) (inode-live g b) l (omega (arith, fit .leaves-fit))
+  pointer-stays l u d = stored-keeps supply pages pages-room (inodeBlock g b) (inode-live g b) l (omega (arith, fit .leaves-fit))
       ∙ sym (getD-set-other c₁ a (g .words * inodeBlock g b + l) (g .words * copied) 0 (λ x. d (omega arith)))
       ∙ ap (λ (x : ℕ). getD b₂ (g .words * x + l) 0) inode
 

@@ -153,8 +153,7 @@ module _ {g : Layout} {b : List ℕ} {f : ℕ} (on : FileOn g b f) (n : ℕ) (mo
         rw (cleared-empty g b f n (size g b f) e) (sized-plan _ _ [] (spliced-lengthens g fit b f n more) (rw (root-block g fit b f) (leaf-live g b (f / g .inodes) (leaf-of g fit f file)), tt)
         (lengthen-empty-good on n e most))
     | inr l ↦ rw (cleared-live g b f n (size g b f) l) (sized-plan _ _ [] (spliced-lengthens g fit b f n more)
-        (in-place-live g b f file (λ h k c. 0) (replicate (n - size g b f) 0) 0 l)
-        (lengthen-good on n l more most))
+        (in-place-live g b f file (λ h k c. 0) (replicate (n - size g b f) 0) 0 l) (lengthen-good on n l more most))
   ]
 
   nothing : n ≡ size g b f → contents g b f ≡ lengthened g fit b f n

@@ -94,10 +94,10 @@ module _ {g : Layout} {b : List ℕ} {f o : ℕ} {new : List ℕ} (w : Writing g
   Good p given = p .taken ≤ lim → OneStep g b f fresh c wanted given p
 
   -- one that leaves m bytes
-  one-good : (s : Step) (m c′ : ℕ) (extra gone : ℕ → ℕ) (given : List ℕ) → m ≡ max (size g b f) (o + length new) → GoodTurn g b f s (spliced g b f o new m) extra gone → Takes g b fresh c c′ s
+  one-good : {s : Step} {m c′ : ℕ} {extra gone : ℕ → ℕ} {given : List ℕ} → GoodTurn g b f s (spliced g b f o new m) extra gone → m ≡ max (size g b f) (o + length new) → Takes g b fresh c c′ s
       → ((q : ℕ) → (extra q ≡ used fresh q c (c′ - c)) × (gone q ≡ occ q given)) → OneStep g b f fresh c wanted given (plan (s ∷ []) c′)
   unfolding plan
-  one-good s m c′ extra gone given e y k counts = record {
+  one-good {s} {m} y e k counts = record {
     only = s;
     steps-are = refl;
     good = rw (spliced-writes g fit b f o new some m e) at (y .good);
@@ -118,7 +118,7 @@ module _ {g : Layout} {b : List ℕ} {f o : ℕ} {new : List ℕ} (w : Writing g
   unfolding singleBlock
   single-parts K e = elim (split (o + length new) (size g b f)) [
     | inl l ↦ elim (decide (o / 8) ((o + length new - 1) / 8)) [
-      | inl w ↦ (l, w, rw (le-leb (o + length new) (size g b f) l, eq-eqb (o / 8) ((o + length new - 1) / 8) w) at e)
+      | inl same ↦ (l, same, rw (le-leb (o + length new) (size g b f) l, eq-eqb (o / 8) ((o + length new - 1) / 8) same) at e)
       | inr d ↦ absurd (hole≢block K (rw (le-leb (o + length new) (size g b f) l, ne-eqb (o / 8) ((o + length new - 1) / 8) d) at e))
     ]
     | inr m ↦ absurd (hole≢block K (rw (lt-leb (o + length new) (size g b f) m) at e))
@@ -129,7 +129,7 @@ module _ {g : Layout} {b : List ℕ} {f o : ℕ} {new : List ℕ} (w : Writing g
   single-way first K e room =
       let p = single-parts K e in
       let l : o + length new ≤ size g b f = p .0 in
-      one-good _ (size g b f) 0 (λ q. 0) (λ q. 0) [] (omega arith) (single-good w some l (reach (omega arith)) K (p .2) (p .1)) (record {
+      one-good (single-good w some l (reach (omega arith)) K (p .2) (p .1)) (omega arith) (record {
         pages = [];
         others = [];
         is = refl;
@@ -169,23 +169,20 @@ module _ {g : Layout} {b : List ℕ} {f o : ℕ} {new : List ℕ} (w : Writing g
 
   empty-tail-way : size g b f ≡ 0 → Good (emptyTail g fresh b inode o new c) []
   unfolding emptyTailTo emptyTail plan step store All occ sizeAddress
-  empty-tail-way z room = one-good _ (o + length new) _ _ (λ q. 0) [] (omega arith)
-      (empty-tail-good (w .on) w some z supply room)
+  empty-tail-way z room = one-good (empty-tail-good (w .on) w some z supply room) (omega arith)
       (record { pages = _; others = _; is = refl; count = refl; others-live = (inode-live-at (rootAddress g b f) (root-block g fit b f), tt); commit-live = inode-live-at (sizeAddress g b f) (size-block g fit b f) })
       (λ q. (ap (used fresh q c) (sym (length-build-null (g .words) (words-pos g fit) b fresh (least (g .words) (g .height) (o + length new)) 0 o new c)) ∙ used-more q _, refl))
 
   live-tail-way : 0 < size g b f → o ≡ size g b f → T (atBlock (walkLive (g .words) b (root g b f % g .words) (root g b f / g .words) (size g b f))) → Good (tailOf (size g b f)) []
   unfolding plan step store occ
-  live-tail-way l e path room = one-good _ (size g b f + length new) _ _ (λ q. 0) [] (omega arith)
-      (rw e (tail-good (w .on) (rw e at w) l path (rw e at (reach l)) supply room))
-      (record {
-        pages = _;
-        others = _;
-        is = refl;
-        count = refl;
-        others-live = in-place-live g b f file (λ h l i. freshPointer (g .words) fresh h 0 l i) new c l;
-        commit-live = inode-live-at (sizeAddress g b f) (size-block g fit b f);
-      }) (λ q. (ap (used fresh q c) (sym (length-tail (g .words) (words-pos g fit) b fresh (root g b f % g .words) (root g b f / g .words) (size g b f) new c)) ∙ used-more q _, refl))
+  live-tail-way l e path room = one-good {m = size g b f + length new} (rw e (tail-good (w .on) (rw e at w) l path (rw e at (reach l)) supply room)) (omega arith) (record {
+    pages = _;
+    others = _;
+    is = refl;
+    count = refl;
+    others-live = in-place-live g b f file (λ h l i. freshPointer (g .words) fresh h 0 l i) new c l;
+    commit-live = inode-live-at (sizeAddress g b f) (size-block g fit b f);
+  }) (λ q. (ap (used fresh q c) (sym (length-tail (g .words) (words-pos g fit) b fresh (root g b f % g .words) (root g b f / g .words) (size g b f) new c)) ∙ used-more q _, refl))
 
   tail-way : isTail g b inode o ≡ true → Good (tail g fresh b inode (size g b f) o new c) []
   tail-way e = elim (split (size g b f) 0) [
@@ -196,7 +193,7 @@ module _ {g : Layout} {b : List ℕ} {f o : ℕ} {new : List ℕ} (w : Writing g
   -- 5
   inside-way : o + length new ≤ size g b f → Good (shadowInside g fresh b inode o new c) (insideBlocks (g .words) b (root g b f % g .words) (root g b f / g .words) (size g b f) o (length new))
   unfolding shadowInside plan step store All
-  inside-way l room = one-good _ (size g b f) _ _ _ _ (omega arith) (inside-good w some l (reach (omega arith)) supply room) (record {
+  inside-way l room = one-good (inside-good w some l (reach (omega arith)) supply room) (omega arith) (record {
     pages = _;
     others = [];
     is = sym (append-nil _);
@@ -209,7 +206,7 @@ module _ {g : Layout} {b : List ℕ} {f o : ℕ} {new : List ℕ} (w : Writing g
   leaf-way : 0 < size g b f → size g b f < o + length new → Good (shadowWithLength g fresh b inode o new c)
       (rootAddress g b f / g .words ∷ pathBlocks (g .words) b (root g b f % g .words) (root g b f / g .words) (size g b f) o (length new))
   unfolding shadowWithLength plan
-  leaf-way l m room = one-good _ (max (size g b f) (o + length new)) _ _ _ _ refl (leaf-good w some l m (reach l) supply room) (leaf-takes g fresh b f o new c (w .on))
+  leaf-way l m room = one-good (leaf-good w some l m (reach l) supply room) refl (leaf-takes g fresh b f o new c (w .on))
       (λ q. (ap (used fresh q c) (omega arith), ap (λ (x : ℕ). occ q (x ∷ pathBlocks (g .words) b (root g b f % g .words) (root g b f / g .words) (size g b f) o (length new))) (sym (root-block g fit b f))))
 
   -- whichever it is
