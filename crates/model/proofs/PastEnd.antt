@@ -186,7 +186,7 @@ module _ {g : Layout} {b : List ℕ} {f o : ℕ} {new : List ℕ} (w : Writing g
 
   no-growth : growing g b f e ≡ false → Spanned g b f e → Wanted (growth g fresh b f e) (grownPlan g fresh b f o new)
   unfolding growth plan
-  no-growth still reach = rw (still, still-plan w lent some still) (λ room. way-past w some reach lent past _ room (among 0 _ room))
+  no-growth still reach = rw (still, still-plan w some lent still) (λ room. way-past w some reach lent past _ room (among 0 _ room))
 
   module _ (grow : Growing g b f e) where
     abbrev p : Plan
@@ -209,13 +209,13 @@ module _ {g : Layout} {b : List ℕ} {f o : ℕ} {new : List ℕ} (w : Writing g
       after-growth room =
           let sizes : size g c f ≡ size g b f = growth-size grow lent enough in
           past-from g b c _ f o (length new) _ sizes walks-kept
-          (way-past (grown-writing w lent some grow enough) some (λ z. growth-reaches grow lent enough) (growth-supply grow lent enough) (rw sizes past) _ room (among (p .taken) _ room))
+          (way-past (grown-writing w some lent grow enough) some (λ z. growth-reaches grow lent enough) (growth-supply grow lent enough) (rw sizes past) _ room (among (p .taken) _ room))
 
     grows : Wanted (growth g fresh b f e) (grownPlan g fresh b f o new)
     grows room =
-        let is : growth g fresh b f e ≡ p = growth-is w lent some grow in
+        let is : growth g fresh b f e ≡ p = growth-is w some lent grow in
         let enough : p .taken ≤ lim = omega (arith, room, growth-first g fresh b f o new, ap (λ (x : Plan). x .taken) is) in
-        let plan-is = grown-plan w lent some grow enough in
+        let plan-is = grown-plan w some lent grow enough in
         rw (is, plan-is) (after-growth enough (rw plan-is at room))
 
   past-some : Wanted (growth g fresh b f e) (somePlan g fresh b f (singleBlock g b f o e) o new)

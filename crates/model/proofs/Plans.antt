@@ -178,7 +178,7 @@ pub growth-first : (g : Layout) (fresh : ℕ → ℕ) (b : List ℕ) (f o : ℕ)
 unfolding grownPlan afterwards plan
 growth-first g fresh b f o new = taken-from g fresh _ (grownInode g fresh b f (o + length new)) o new (growth g fresh b f (o + length new) .taken)
 
-module _ {g : Layout} {b : List ℕ} {f o : ℕ} {new : List ℕ} (w : Writing g b f o new) {fresh : ℕ → ℕ} {lim : ℕ} (supply : Supply g b fresh 0 lim) (some : 0 < length new) where
+module _ {g : Layout} {b : List ℕ} {f o : ℕ} {new : List ℕ} (w : Writing g b f o new) (some : 0 < length new) {fresh : ℕ → ℕ} {lim : ℕ} (supply : Supply g b fresh 0 lim) where
   open FileOn (w .on) using (fit)
 
   abbrev e : ℕ
@@ -221,11 +221,14 @@ module _ {g : Layout} {b : List ℕ} {f o : ℕ} {new : List ℕ} (w : Writing g
 
   -- growth
   module _ (grow : Growing g b f e) where
+    abbrev h : ℕ
+    h = least (g .words) (g .height) e
+
     abbrev p : Plan
-    p = growthTo g fresh b f (least (g .words) (g .height) e)
+    p = growthTo g fresh b f h
 
     abbrev g-step : Step
-    g-step = growthStep g fresh b f (least (g .words) (g .height) e)
+    g-step = growthStep g fresh b f h
 
     -- the board that it leaves
     abbrev c : List ℕ
@@ -237,15 +240,15 @@ module _ {g : Layout} {b : List ℕ} {f o : ℕ} {new : List ℕ} (w : Writing g
 
     module _ (enough : p .taken ≤ lim) where
       inode-is : grownInode g fresh b f e ≡ inodeOf g c f
-      inode-is = rw (growth-is, growth-performed g fresh b f (least (g .words) (g .height) e)) at (grown-board w some supply (rw growth-is enough) .inode)
+      inode-is = rw (growth-is, growth-performed g fresh b f h) at (grown-board w some supply (rw growth-is enough) .inode)
 
       pub grown-plan : grownPlan g fresh b f o new ≡ afterwards p (way c (p .taken))
       unfolding grownPlan
-      grown-plan = rw (growth-is, growth-performed g fresh b f (least (g .words) (g .height) e), inode-is)
+      grown-plan = rw (growth-is, growth-performed g fresh b f h, inode-is)
 
       grown-gives : someGives g fresh b f Hole o new ≡ gives c
       unfolding someGives
-      grown-gives = rw (growth-is, growth-performed g fresh b f (least (g .words) (g .height) e), inode-is)
+      grown-gives = rw (growth-is, growth-performed g fresh b f h, inode-is)
 
       -- the write on that board
       pub grown-writing : Writing g c f o new
@@ -255,7 +258,7 @@ module _ {g : Layout} {b : List ℕ} {f o : ℕ} {new : List ℕ} (w : Writing g
       unfolding growthTo plan afterwards
       after-growth room =
           let first : GoodStep g b f g-step (contents g b f) = growth-good grow supply enough in
-          two-plan fit first (growth-takes (w .on) fresh (least (g .words) (g .height) e)) (growth-counts grow supply enough)
+          two-plan fit first (growth-takes (w .on) fresh h) (growth-counts grow supply enough)
           (rw (← (first .outcome .reads)) (way-good grown-writing some (λ l. growth-reaches grow supply enough) (growth-supply grow supply enough) room))
           (taken-from g fresh c (inodeOf g c f) o new (p .taken))
 
@@ -273,4 +276,4 @@ pub write-good : {g : Layout} {b : List ℕ} {f o : ℕ} {new : List ℕ} → Wr
     → GoodPlan g b f fresh (overwritten o new (contents g b f)) (writeGives g fresh b f o new) (writePlan g fresh b f o new)
 unfolding writePlan writeGives plan overwritten
 write-good {g} {b} {f} {o} {new = []} w {fresh} supply room = none-good g b f fresh _ refl
-write-good {g} {b} {f} {o} {new = x ∷ new} w supply room = write-some w supply (omega arith) (singleBlock g b f o (o + suc (length new))) refl room
+write-good {g} {b} {f} {o} {new = x ∷ new} w supply room = write-some w (omega arith) supply (singleBlock g b f o (o + suc (length new))) refl room

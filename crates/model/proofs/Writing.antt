@@ -8,7 +8,7 @@ use Rattle.model.specs.Board.{greatest, root, size}
 use Rattle.model.proofs.Splice.{Small}
 use Rattle.model.proofs.Accepting.{FileOn}
 
--- a write to a file of an accepted board that ends by the greatest size
+-- a write, to a file of an accepted board, that ends by the greatest size
 pub record Writing (g : Layout) (b : List ℕ) (f o : ℕ) (new : List ℕ) : Type 0 where
   pub on : FileOn g b f
   pub small : Small new
@@ -18,7 +18,7 @@ pub record Writing (g : Layout) (b : List ℕ) (f o : ℕ) (new : List ℕ) : Ty
 abbrev pub Spanned : Layout → List ℕ → ℕ → ℕ → Type 0
 Spanned g b f e = 0 < size g b f → e ≤ span (g .words) (root g b f % g .words)
 
--- it is not empty and its tree spans fewer than e bytes: it grows before a write that ends at e
+-- the file is not empty and its tree spans fewer than e bytes: it grows before a write that ends at e
 pub record Growing (g : Layout) (b : List ℕ) (f e : ℕ) : Type 0 where
   pub on : FileOn g b f
   pub live : 0 < size g b f
