@@ -126,6 +126,12 @@ module _ (g : Layout) (b : List ℕ) where
   pub leaves-range : every (g .leaves) (leafSound g b) ≡ true → (l : ℕ) → l < g .leaves → Ranged g b (leaf g b l)
   leaves-range e l u = leaf-range l (every-of (g .leaves) (leafSound g b) (rw e tt) l u)
 
+-- f is a file of an accepted board
+pub record FileOn (g : Layout) (b : List ℕ) (f : ℕ) : Type 0 where
+  pub fit : Fits g
+  pub board : T (accepted g b)
+  pub file : f < files g
+
 -- an accepted board, as facts on numbers
 pub record Facts (g : Layout) (b : List ℕ) : Type 0 where
   pub sizes : Counted g b

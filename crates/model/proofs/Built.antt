@@ -28,6 +28,11 @@ unfoldable pub held : ℕ → (ℕ → ℕ) → List ℕ → List Page → ℕ �
 held W fresh b [] c = Unit
 held W fresh b (p ∷ ps) c = ((j : ℕ) → j < W → cell W b (fresh c) j ≡ p j) × held W fresh b ps (suc c)
 
+-- the blocks fresh i with i < lim lie in 1 to top − 1
+pub record Between (fresh : ℕ → ℕ) (lim top : ℕ) : Type 0 where
+  pub nonzero : (i : ℕ) → i < lim → 0 < fresh i
+  pub below : (i : ℕ) → i < lim → fresh i < top
+
 module _ (fresh : ℕ → ℕ) where
   -- how often q is among m fresh blocks from c on
   unfoldable pub used : ℕ → ℕ → ℕ → ℕ
@@ -175,12 +180,12 @@ module _ (W : ℕ) (pos : 0 < W) (b : List ℕ) (fresh : ℕ → ℕ) where
         (held-joined W f c (held-left (joined W f) (pointerPage W fresh b h k n o (length new) c ∷ []) c (rw (build-node h k n o new c p) at g)) j l)
 
     -- the bytes of the fresh tree, of which m lie below the new size
-    module _ (lim : ℕ) (nonzero : (i : ℕ) → i < lim → 0 < fresh i) where
+    module _ {lim top : ℕ} (within : Between fresh lim top) where
       pub data-byte : (k n o : ℕ) (new : List ℕ) (c m : ℕ) → touched W zero k n o (length new) ≡ true → c < lim → Small new → held W fresh b′ (build W fresh b zero k n o new c) c
           → (i : ℕ) → i < span W zero → i < m → byteAt W b′ zero (fresh c) m i ≡ splice o new (byteAt W b zero k n i) i
       unfolding held span
       data-byte k n o new c m p q small g i l v =
-          page-byte W pos b b′ k (fresh c) n m o new (nonzero c q) small i v ((rw (build-data k n o new c p) at g) .0 (i / 8) (omega arith))
+          page-byte W pos b b′ k (fresh c) n m o new (within .nonzero c q) small i v ((rw (build-data k n o new c p) at g) .0 (i / 8) (omega arith))
 
       -- the pointers of the fresh root: a fresh one over a child that takes fresh blocks, elsewhere the old one as it is visible
       pub top-old : (h k n o : ℕ) (new : List ℕ) (c : ℕ) → touched W (suc h) k n o (length new) ≡ true → c + freshNeed W b (suc h) k n o (length new) ≤ lim
@@ -189,7 +194,7 @@ module _ (W : ℕ) (pos : 0 < W) (b : List ℕ) (fresh : ℕ → ℕ) where
           → link W b′ (fresh (c + freshNeed W b (suc h) k n o (length new) - 1)) j ≡ seen (n - j * span W h) (link W b k j)
       unfolding pointerPage
       top-old h k n o new c p q g j l none =
-          link-cell W pos b′ _ j (nonzero _ (omega (arith, fresh-pos W b (suc h) k n o (length new) p))) ∙ held-root h k n o new c p g j l
+          link-cell W pos b′ _ j (within .nonzero _ (omega (arith, fresh-pos W b (suc h) k n o (length new) p))) ∙ held-root h k n o new c p g j l
           ∙ choose-zero (kidNeed W b h k n o (length new) j) _ _ (fresh-none W b h _ _ _ _ none)
 
       pub top-new : (h k n o : ℕ) (new : List ℕ) (c : ℕ) → touched W (suc h) k n o (length new) ≡ true → c + freshNeed W b (suc h) k n o (length new) ≤ lim
@@ -199,24 +204,24 @@ module _ (W : ℕ) (pos : 0 < W) (b : List ℕ) (fresh : ℕ → ℕ) where
           ≡ W * fresh (c + freshBefore W b h k n o (length new) j + freshNeed W b h (link W b k j / W) (n - j * span W h) (o - j * span W h) (length (part (span W h) j o new)) - 1)
       unfolding pointerPage
       top-new h k n o new c p q g j l some =
-          link-cell W pos b′ _ j (nonzero _ (omega (arith, fresh-pos W b (suc h) k n o (length new) p))) ∙ held-root h k n o new c p g j l
+          link-cell W pos b′ _ j (within .nonzero _ (omega (arith, fresh-pos W b (suc h) k n o (length new) p))) ∙ held-root h k n o new c p g j l
           ∙ choose-pos (kidNeed W b h k n o (length new) j) _ _ (fresh-pos W b h _ _ _ _ some)
           ∙ ap (λ (l : ℕ). W * fresh (c + freshBefore W b h k n o (length new) j + freshNeed W b h (link W b k j / W) (n - j * span W h) (o - j * span W h) l - 1)) (sym (length-part (span W h) j o new))
 
-      pub build-changed : (top : ℕ) → ((i : ℕ) → i < lim → fresh i < top) → (h k n o : ℕ) (new : List ℕ) (c m : ℕ) → touched W h k n o (length new) ≡ true
+      pub build-changed : (h k n o : ℕ) (new : List ℕ) (c m : ℕ) → touched W h k n o (length new) ≡ true
           → c + freshNeed W b h k n o (length new) ≤ lim → Small new
           → held W fresh b′ (build W fresh b h k n o new c) c → agree W b b′ h k n → n ≤ m → 0 < m → (0 < length new → o + length new ≤ m) → Reach n m o (length new) (span W h)
           → Changed W b b′ top h k (fresh (c + freshNeed W b h k n o (length new) - 1)) n m o new (λ q. used fresh q c (freshNeed W b h k n o (length new)))
           (λ q. occ q (pathBlocks W b h k n o (length new)))
-      build-changed top below zero k n o new c m p r small g a le live end reach =
+      build-changed zero k n o new c m p r small g a le live end reach =
           let e : c + 1 - 1 ≡ c = omega arith in
           let one-block : freshNeed W b zero k n o (length new) ≡ 1 = fresh-data W b k n o (length new) p in
           rw one-block (rw e (record {
             bytes = data-byte k n o new c m p (omega arith) small g;
-            counts = λ q. omega (arith, occ-data W pos b′ (fresh c) m q (nonzero c (omega arith)) live, used-one fresh q c, path-data W pos b k n o (length new) q p);
-            fine = λ s. sound-leaf W pos top b′ (fresh c) m (below c (omega arith));
+            counts = λ q. omega (arith, occ-data W pos b′ (fresh c) m q (within .nonzero c (omega arith)) live, used-one fresh q c, path-data W pos b k n o (length new) q p);
+            fine = λ s. sound-leaf W pos top b′ (fresh c) m (within .below c (omega arith));
           }))
-      build-changed top below (suc h) k n o new c m p r small g a le live end reach =
+      build-changed (suc h) k n o new c m p r small g a le live end reach =
           let s = span W h in
           let l = length new in
           let root = c + freshNeed W b (suc h) k n o l - 1 in
@@ -224,8 +229,8 @@ module _ (W : ℕ) (pos : 0 < W) (b : List ℕ) (fresh : ℕ → ℕ) where
           let count : freshNeed W b (suc h) k n o l ≡ freshBefore W b h k n o l W + 1 = omega (arith, fresh-node W b h k n o l p) in
           let test : ℕ → Bool = λ j. touched W h (link W b k j / W) (n - j * s) (o - j * s) (partLength s j o l) in
           node W pos b b′ top h k (fresh root) n m o new _ _ (λ j q. used fresh q (c + freshBefore W b h k n o l j) (kidNeed W b h k n o l j))
-          (λ j q. occ q (pathUnder W pos b h k n o l j)) (nonzero root root-lt) live
-          (λ s. below root root-lt)
+          (λ j q. occ q (pathUnder W pos b h k n o l j)) (within .nonzero root root-lt) live
+          (λ s. within .below root root-lt)
           (λ j j-lt t. elim (either (test j)) [
             | inr none ↦ rw (top-old h k n o new c p r g j j-lt none) (elim (split (n - j * s) 0) [
               | inl dead ↦ rw (seen-dead (n - j * s) (link W b k j) (omega arith)) (aligned-zero W pos (m - j * s) 0 (zero-mod W))
@@ -254,20 +259,20 @@ module _ (W : ℕ) (pos : 0 < W) (b : List ℕ) (fresh : ℕ → ℕ) where
                   | inr part ↦ omega (arith, part-fits s j o l m part end)
                 ] in
                 rw (top-new h k n o new c p r g j j-lt some) (rw (mul-div-cancel-left _ pos) (rw (← len)
-                (build-changed top below h (link W b k j / W) (n - j * s) (o - j * s) (part s j o new) (c + freshBefore W b h k n o l j) (m - j * s) (rw len some)
+                (build-changed h (link W b k j / W) (n - j * s) (o - j * s) (part s j o new) (c + freshBefore W b h k n o l j) (m - j * s) (rw len some)
                 (room h k n o new c lim p r j j-lt) (small-part s j o new small) (held-child h k n o new c p g j j-lt) (agree-child W pos b b′ h k n a j j-lt) (omega arith) alive
                 (rw len (λ u. part-fits s j o l m u end)) (reach-child W h o new n m reach j j-lt))))
           ])
 
       -- where no block exists, and none is given up
-      pub build-null-changed : (top : ℕ) → ((i : ℕ) → i < lim → fresh i < top) → (h o : ℕ) (new : List ℕ) (c m : ℕ) → 0 < length new → c + need W h o (length new) ≤ lim → Small new
+      pub build-null-changed : (h o : ℕ) (new : List ℕ) (c m : ℕ) → 0 < length new → c + need W h o (length new) ≤ lim → Small new
           → held W fresh b′ (build W fresh b h 0 0 o new c) c → o + length new ≤ m → Reach 0 m o (length new) (span W h)
           → Changed W b b′ top h 0 (fresh (c + need W h o (length new) - 1)) 0 m o new (λ q. used fresh q c (need W h o (length new))) (λ q. 0)
-      build-null-changed top below h o new c m some r small g end reach =
+      build-null-changed h o new c m some r small g end reach =
           let count : freshNeed W b h 0 0 o (length new) ≡ need W h o (length new) = fresh-quiet W b h 0 0 o (length new) (inl refl) in
           recount W pos b b′ top h _ _ _ _ _ _ _ _ _ _ (λ q. omega (arith, path-null W pos b h 0 o (length new) q))
           (subst (λ (x : ℕ). Changed W b b′ top h 0 (fresh (c + x - 1)) 0 m o new (λ q. used fresh q c x) (λ q. occ q (pathBlocks W b h 0 0 o (length new)))) count
-          (build-changed top below h 0 0 o new c m (touched-new W h 0 0 o (length new) some) (rw count r) small g (agree-none W pos b b′ h 0 0 refl) (omega arith) (omega arith) (λ u. end) reach))
+          (build-changed h 0 0 o new c m (touched-new W h 0 0 o (length new) some) (rw count r) small g (agree-none W pos b b′ h 0 0 refl) (omega arith) (omega arith) (λ u. end) reach))
 
 -- ---- Where nothing is visible and nothing written
 

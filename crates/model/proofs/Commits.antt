@@ -18,7 +18,7 @@ use Rattle.model.proofs.Agree.{byteAt, agree, agree-none, agree-trans, 
 use Rattle.model.proofs.Changed.{Changed}
 use Rattle.model.proofs.Grown.{Grown}
 use Rattle.model.proofs.Shown.{Same, rootByte, root-byte-in, root-byte-past, contents-bytes, root-blocks, root-byte, root-walk, root-sound, words-pos, occ-live, leaf-of, count-kept, words-kept}
-use Rattle.model.proofs.Accepting.{accepted-parts, parts-accepted, file-parts, root-sound-parts}
+use Rattle.model.proofs.Accepting.{FileOn, accepted-parts, parts-accepted, file-parts, root-sound-parts}
 
 -- file f is sound on b₂, reads `wanted`, and has its blocks of b and the extra ones, less those that are gone
 pub record FileCommit (g : Layout) (b b₂ : List ℕ) (f : ℕ) (wanted : List ℕ) (extra gone : ℕ → ℕ) : Type 0 where
@@ -77,6 +77,63 @@ spliced g b f o new m = tabulate m (λ i. splice o new (seen (size g b f - i) (r
 abbrev pub Had : (g : Layout) (b : List ℕ) (f h k : ℕ) → Type 0
 Had g b f h k = 0 < size g b f → (h ≡ root g b f % g .words) × (k ≡ root g b f / g .words)
 
+module _ (g : Layout) (fit : Fits g) (b : List ℕ) (f : ℕ) where
+  pub had-blocks : (h k : ℕ) → Had g b f h k → blocks (g .words) b h k (size g b f) ≡ fileBlocks g b f
+  unfolding fileBlocks rootBlocks
+  had-blocks h k old = elim (split (size g b f) 0) [
+    | inl z ↦ let z′ : size g b f ≡ 0 = omega arith in
+        blocks-none (g .words) (words-pos g fit) b h k (size g b f) z′ ∙ sym (blocks-none (g .words) (words-pos g fit) b (root g b f % g .words) (root g b f / g .words) (size g b f) z′)
+    | inr z ↦ rw (old z .0, old z .1)
+  ]
+
+  had-byte : (h k i : ℕ) → Had g b f h k → i < span (g .words) h → byteAt (g .words) b h k (size g b f) i ≡ seen (size g b f - i) (rootByte (g .words) b (root g b f) (size g b f) i)
+  had-byte h k i old l = elim (split (size g b f) i) [
+    | inl z ↦ byteAt-past (g .words) (words-pos g fit) b h k (size g b f) i z ∙ sym (seen-dead (size g b f - i) _ (omega arith))
+    | inr z ↦ let o = old (omega arith) in
+        rw (o .0, o .1) (sym (seen-live (size g b f - i) _ (omega arith) ∙ root-byte-in (g .words) b (root g b f) (size g b f) i (rw (← (o .0)) l)))
+  ]
+
+-- a file that is written: m bytes, `new` at o, in a tree of the height that it had
+pub record Written (g : Layout) (b b₂ : List ℕ) (f h k o m : ℕ) (new : List ℕ) (extra gone : ℕ → ℕ) : Type 0 where
+  pub old : Had g b f h k
+  pub height : root g b₂ f % g .words ≡ h
+  pub now : size g b₂ f ≡ m
+  pub low : h ≤ g .height
+  pub most : m ≤ greatest g
+  -- past the span nothing is seen
+  pub past : (i : ℕ) → span (g .words) h ≤ i → i < m → splice o new 0 i ≡ 0
+  pub change : Changed (g .words) b b₂ (blockCount g b - 1) h k (root g b₂ f / g .words) (size g b f) m o new extra gone
+
+root-sound-of : (g : Layout) (b₂ : List ℕ) (height top r n : ℕ) → r % g .words ≤ height → T (sound (g .words) b₂ top (r % g .words) (r / g .words) n) → T (rootSound (g .words) b₂ height top r n)
+unfolding rootSound
+root-sound-of g b₂ height top r zero p t = tt
+root-sound-of g b₂ height top r (suc n) p t = and-both (leb (r % g .words) height) (sound (g .words) b₂ top (r % g .words) (r / g .words) (suc n)) (le→leb (r % g .words) height p) t
+
+module _ {g : Layout} (fit : Fits g) {b b₂ : List ℕ} (len : length b ≡ length b₂) {f h k o m : ℕ} {new : List ℕ} {extra gone : ℕ → ℕ} (w : Written g b b₂ f h k o m new extra gone) where
+  written-byte : (i : ℕ) → i < m → rootByte (g .words) b₂ (root g b₂ f) m i ≡ splice o new (seen (size g b f - i) (rootByte (g .words) b (root g b f) (size g b f) i)) i
+  written-byte i l =
+      let n : ℕ = size g b f in
+      elim (split (span (g .words) h) i) [
+        | inl past ↦
+            let none : seen (n - i) (rootByte (g .words) b (root g b f) n i) ≡ 0 = elim (split n i) [
+              | inl z ↦ seen-dead (n - i) _ (omega arith)
+              | inr z ↦ seen-live (n - i) _ (omega arith) ∙ root-byte-past (g .words) b (root g b f) n i (rw (← (w .old (omega arith) .0)) past)
+            ] in
+            root-byte-past (g .words) b₂ (root g b₂ f) m i (rw (w .height) past) ∙ sym (ap (λ (x : ℕ). splice o new x i) none ∙ w .past i past l)
+        | inr l′ ↦
+            let now : byteAt (g .words) b₂ (root g b₂ f % g .words) (root g b₂ f / g .words) m i ≡ splice o new (byteAt (g .words) b h k n i) i = rw (w .height) (w .change .bytes i l′ l) in
+            root-byte-in (g .words) b₂ (root g b₂ f) m i (rw (w .height) l′) ∙ now ∙ ap (λ (x : ℕ). splice o new x i) (had-byte g fit b f h k i (w .old) l′)
+      ]
+
+  pub written-commit : T (sound (g .words) b (blockCount g b - 1) h k (size g b f)) → FileCommit g b b₂ f (spliced g b f o new m) extra gone
+  unfolding fileSound fileBlocks rootBlocks
+  written-commit t = record {
+    sound = rw (w .now, ← (count-kept g b b₂ len)) (and-both (leb m (greatest g)) (rootSound (g .words) b₂ (g .height) (blockCount g b - 1) (root g b₂ f) m) (le→leb m (greatest g) (w .most))
+        (root-sound-of g b₂ (g .height) (blockCount g b - 1) (root g b₂ f) m (rw (w .height) (w .low)) (rw (w .height) (w .change .fine t))));
+    reads = rw (contents-bytes g (words-pos g fit) b₂ f, w .now) (tabulate-cong m _ _ written-byte);
+    counts = λ q. rw (w .height, w .now) (omega (arith, w .change .counts q, ap (occ q) (had-blocks g fit b f h k (w .old))));
+  }
+
 module _ (g : Layout) (fit : Fits g) (b b₂ : List ℕ) (len : length b ≡ length b₂) (f : ℕ) where
   pos : 0 < g .words
   pos = words-pos g fit
@@ -94,62 +151,6 @@ module _ (g : Layout) (fit : Fits g) (b b₂ : List ℕ) (len : length b ≡ len
         counts = λ q. rw (← sizes, ← e) (omega arith);
       }
 
-  root-sound-of : (height top r n : ℕ) → r % g .words ≤ height → T (sound (g .words) b₂ top (r % g .words) (r / g .words) n) → T (rootSound (g .words) b₂ height top r n)
-  unfolding rootSound
-  root-sound-of height top r zero p t = tt
-  root-sound-of height top r (suc n) p t = and-both (leb (r % g .words) height) (sound (g .words) b₂ top (r % g .words) (r / g .words) (suc n)) (le→leb (r % g .words) height p) t
-
-  pub had-blocks : (h k : ℕ) → Had g b f h k → blocks (g .words) b h k (size g b f) ≡ fileBlocks g b f
-  unfolding fileBlocks rootBlocks
-  had-blocks h k old = elim (split (size g b f) 0) [
-    | inl z ↦ let z′ : size g b f ≡ 0 = omega arith in
-        blocks-none (g .words) pos b h k (size g b f) z′ ∙ sym (blocks-none (g .words) pos b (root g b f % g .words) (root g b f / g .words) (size g b f) z′)
-    | inr z ↦ rw (old z .0, old z .1)
-  ]
-
-  had-byte : (h k i : ℕ) → Had g b f h k → i < span (g .words) h → byteAt (g .words) b h k (size g b f) i ≡ seen (size g b f - i) (rootByte (g .words) b (root g b f) (size g b f) i)
-  had-byte h k i old l = elim (split (size g b f) i) [
-    | inl z ↦ byteAt-past (g .words) pos b h k (size g b f) i z ∙ sym (seen-dead (size g b f - i) _ (omega arith))
-    | inr z ↦ let o = old (omega arith) in
-        rw (o .0, o .1) (sym (seen-live (size g b f - i) _ (omega arith) ∙ root-byte-in (g .words) b (root g b f) (size g b f) i (rw (← (o .0)) l)))
-  ]
-
-  -- a file that is written: m bytes, `new` at o, in a tree of the height that it had
-  pub record Written (h k o m : ℕ) (new : List ℕ) (extra gone : ℕ → ℕ) : Type 0 where
-    pub old : Had g b f h k
-    pub height : root g b₂ f % g .words ≡ h
-    pub now : size g b₂ f ≡ m
-    pub low : h ≤ g .height
-    pub most : m ≤ greatest g
-    -- past the span nothing is seen
-    pub past : (i : ℕ) → span (g .words) h ≤ i → i < m → splice o new 0 i ≡ 0
-    pub change : Changed (g .words) b b₂ (blockCount g b - 1) h k (root g b₂ f / g .words) (size g b f) m o new extra gone
-
-  module _ (h k o m : ℕ) (new : List ℕ) (extra gone : ℕ → ℕ) (w : Written h k o m new extra gone) where
-    written-byte : (i : ℕ) → i < m → rootByte (g .words) b₂ (root g b₂ f) m i ≡ splice o new (seen (size g b f - i) (rootByte (g .words) b (root g b f) (size g b f) i)) i
-    written-byte i l =
-        let n : ℕ = size g b f in
-        elim (split (span (g .words) h) i) [
-          | inl past ↦
-              let none : seen (n - i) (rootByte (g .words) b (root g b f) n i) ≡ 0 = elim (split n i) [
-                | inl z ↦ seen-dead (n - i) _ (omega arith)
-                | inr z ↦ seen-live (n - i) _ (omega arith) ∙ root-byte-past (g .words) b (root g b f) n i (rw (← (w .old (omega arith) .0)) past)
-              ] in
-              root-byte-past (g .words) b₂ (root g b₂ f) m i (rw (w .height) past) ∙ sym (ap (λ (x : ℕ). splice o new x i) none ∙ w .past i past l)
-          | inr l′ ↦
-              let now : byteAt (g .words) b₂ (root g b₂ f % g .words) (root g b₂ f / g .words) m i ≡ splice o new (byteAt (g .words) b h k n i) i = rw (w .height) (w .change .bytes i l′ l) in
-              root-byte-in (g .words) b₂ (root g b₂ f) m i (rw (w .height) l′) ∙ now ∙ ap (λ (x : ℕ). splice o new x i) (had-byte h k i (w .old) l′)
-        ]
-
-    pub written-commit : T (sound (g .words) b (blockCount g b - 1) h k (size g b f)) → FileCommit g b b₂ f (spliced g b f o new m) extra gone
-    unfolding fileSound fileBlocks rootBlocks
-    written-commit t = record {
-      sound = rw (w .now, ← (count-kept g b b₂ len)) (and-both (leb m (greatest g)) (rootSound (g .words) b₂ (g .height) (blockCount g b - 1) (root g b₂ f) m) (le→leb m (greatest g) (w .most))
-          (root-sound-of (g .height) (blockCount g b - 1) (root g b₂ f) m (rw (w .height) (w .low)) (rw (w .height) (w .change .fine t))));
-      reads = rw (contents-bytes g pos b₂ f, w .now) (tabulate-cong m _ _ written-byte);
-      counts = λ q. rw (w .height, w .now) (omega (arith, w .change .counts q, ap (occ q) (had-blocks h k (w .old))));
-    }
-
   -- a file whose tree is grown
   pub grown-commit : (h′ : ℕ) (extra : ℕ → ℕ) → 0 < size g b f → size g b f ≡ size g b₂ f → root g b₂ f % g .words ≡ h′ → h′ ≤ g .height
       → Grown (g .words) b b₂ (blockCount g b - 1) (root g b f % g .words) (root g b f / g .words) h′ (root g b₂ f / g .words) (size g b f) extra
@@ -160,7 +161,7 @@ module _ (g : Layout) (fit : Fits g) (b b₂ : List ℕ) (len : length b ≡ len
       let old = file-parts g b f t in
       record {
         sound = rw (← sizes, ← (count-kept g b b₂ len)) (and-both (leb n (greatest g)) (rootSound (g .words) b₂ (g .height) (blockCount g b - 1) (root g b₂ f) n) (le→leb n (greatest g) (old .0))
-            (root-sound-of (g .height) (blockCount g b - 1) (root g b₂ f) n (rw height low)
+            (root-sound-of g b₂ (g .height) (blockCount g b - 1) (root g b₂ f) n (rw height low)
             (rw height (w .fine (root-sound-parts g b (g .height) (blockCount g b - 1) (root g b f) n live (old .1) .1)))));
         reads = rw (contents-bytes g pos b f, contents-bytes g pos b₂ f, ← sizes) (tabulate-cong n _ _ (λ i l. rw height (w .bytes i)));
         counts = λ q. rw (← sizes, height) (omega (arith, w .counts q));
@@ -175,8 +176,8 @@ pub record Others (g : Layout) (b b₂ : List ℕ) (f : ℕ) : Type 0 where
   pub trees : (i : ℕ) → i < files g → i ≢ f → agree (g .words) b b₂ (root g b i % g .words) (root g b i / g .words) (size g b i)
 
 -- on a board that shows the same as b
-pub others-from : (g : Layout) → 0 < g .words → (b c b₂ : List ℕ) (f : ℕ) → Same g b c → Others g c b₂ f → Others g b b₂ f
-others-from g pos b c b₂ f s o = record {
+pub others-from : {g : Layout} → 0 < g .words → {b c b₂ : List ℕ} {f : ℕ} → Same g b c → Others g c b₂ f → Others g b b₂ f
+others-from {g} pos {b} {c} {b₂} s o = record {
   sizes = λ i u d. s .sizes i u ∙ o .sizes i u d;
   roots = λ i u d live. s .roots i u live ∙ o .roots i u d (rw (← (s .sizes i u)) live);
   trees = λ i u d. elim (split (size g b i) 0) [
@@ -208,13 +209,15 @@ pub record Outcome (g : Layout) (b b₂ : List ℕ) (f : ℕ) (wanted : List ℕ
   pub reads : contents g b₂ f ≡ wanted
   pub kept : (i : ℕ) → i < files g → i ≢ f → Kept g b b₂ i
 
-module _ (g : Layout) (fit : Fits g) (b b₂ : List ℕ) (f : ℕ) (wanted : List ℕ) (beside lessBeside within lessWithin : ℕ → ℕ) (c : OneFile g b b₂ f wanted beside lessBeside within lessWithin) (t : T (accepted g b)) where
+module _ {g : Layout} {b b₂ : List ℕ} {f : ℕ} (on : FileOn g b f) {wanted : List ℕ} {beside lessBeside within lessWithin : ℕ → ℕ} (c : OneFile g b b₂ f wanted beside lessBeside within lessWithin) where
+  open FileOn on using (fit, board, file)
+
   -- what file i reads
   reads-of : ℕ → List ℕ
   reads-of i = contents g b₂ i
 
   other : (i : ℕ) → i < files g → i ≢ f → FileCommit g b b₂ i (contents g b i) (λ q. 0) (λ q. 0)
-  other i u d = kept-commit g fit b b₂ (c .lengths) i (c .others .sizes i u d) (c .others .roots i u d) (c .others .trees i u d) (accepted-parts g b t .files-sound i u)
+  other i u d = kept-commit g fit b b₂ (c .lengths) i (c .others .sizes i u d) (c .others .roots i u d) (c .others .trees i u d) (accepted-parts g b board .files-sound i u)
 
   other-walks : (i : ℕ) → i < files g → i ≢ f → (n : ℕ) → walkTo g b₂ i n ≡ walkTo g b i n
   unfolding walkTo
@@ -244,19 +247,19 @@ module _ (g : Layout) (fit : Fits g) (b b₂ : List ℕ) (f : ℕ) (wanted : Lis
 
   pub one-file : Outcome g b b₂ f wanted
   one-file = record {
-    board = commit-accepted g b b₂ commit t;
+    board = commit-accepted g b b₂ commit board;
     reads = c .file .reads;
     kept = λ i u d. record { reads = other i u d .reads; walks = other-walks i u d };
   }
 
-  pub one-file-counts : f < files g → (q : ℕ) → occ q (liveBlocks g b₂) + lessBeside q + lessWithin q ≡ occ q (liveBlocks g b) + beside q + within q
-  one-file-counts f-lt q =
-      let l-lt : f / g .inodes < g .leaves = leaf-of g fit f f-lt in
+  pub one-file-counts : (q : ℕ) → occ q (liveBlocks g b₂) + lessBeside q + lessWithin q ≡ occ q (liveBlocks g b) + beside q + within q
+  one-file-counts q =
+      let l-lt : f / g .inodes < g .leaves = leaf-of g fit f file in
       omega (
         arith,
         commit-counts g b b₂ commit q,
         sum-only-at (g .leaves) (f / g .inodes) (beside q) l-lt,
         sum-only-at (g .leaves) (f / g .inodes) (lessBeside q) l-lt,
-        sum-only-at (files g) f (within q) f-lt,
-        sum-only-at (files g) f (lessWithin q) f-lt,
+        sum-only-at (files g) f (within q) file,
+        sum-only-at (files g) f (lessWithin q) file,
       )

@@ -31,7 +31,7 @@ use Rattle.model.proofs.Splice.{Small, length-part, splice-small, splic
 use Rattle.model.specs.GivenUp.{pathBlocks, insideBlocks}
 use Rattle.model.proofs.Paths.{touched-new}
 use Rattle.model.proofs.Changed.{Changed, recount, kept, node}
-use Rattle.model.proofs.Built.{held, used, length-build, build-changed}
+use Rattle.model.proofs.Built.{Between, held, used, length-build, build-changed}
 use Rattle.model.proofs.Shown.{place-in-block}
 
 -- the block of a word at A
@@ -45,7 +45,7 @@ pub record Replaced (W : ℕ) (b b₂ : List ℕ) (A h k n : ℕ) : Type 0 where
   pub once : (q : ℕ) → occ q (blocks W b h k n) ≤ 1
   pub same : (q : ℕ) → 0 < occ q (blocks W b h k n) → (t : ℕ) → t < W → W * q + t ≢ A → cell W b q t ≡ cell W b₂ q t
 
-module _ (W : ℕ) (pos : 0 < W) (b b₂ : List ℕ) (A h k n : ℕ) (live : 0 < n) (r : Replaced W b b₂ A (suc h) (suc k) n) where
+module _ {W : ℕ} (pos : 0 < W) {b b₂ : List ℕ} {A h k n : ℕ} (live : 0 < n) (r : Replaced W b b₂ A (suc h) (suc k) n) where
   -- no child reaches the root again
   root-above : (i : ℕ) → i < W → occ (suc k) (childBlocks W b h (suc k) n i) ≡ 0
   root-above i l =
@@ -222,8 +222,7 @@ module _ (W : ℕ) (fresh : ℕ → ℕ) (b b₂ : List ℕ) (c lim : ℕ) where
     pub value : getD b₂ (sh .at) 0 / W ≡ fresh (c + length (sh .pages) - 1)
     pub low : sh .at ≢ a → getD b₂ (sh .at) 0 % W ≡ 0
 
-module _ (W : ℕ) (pos : 0 < W) (fresh : ℕ → ℕ) (b b₂ : List ℕ) (new : List ℕ) (some : 0 < length new) (small : Small new) (c lim : ℕ)
-    (nonzero : (i : ℕ) → i < lim → 0 < fresh i) (top : ℕ) (below : (i : ℕ) → i < lim → fresh i < top) where
+module _ (W : ℕ) (pos : 0 < W) (b b₂ : List ℕ) (new : List ℕ) (some : 0 < length new) (small : Small new) {fresh : ℕ → ℕ} {lim top : ℕ} (within : Between fresh lim top) (c : ℕ) where
   -- then the tree is changed. k₂ is its block on b₂: what its own pointer leads to there if that is the word replaced, else the old one
   abbrev Done : Shadow → ℕ → ℕ → ℕ → ℕ → ℕ → List ℕ → Type 0
   Done sh h k n o a given = Committed W fresh b b₂ c lim (length new) sh h k n o a → (k₂ : ℕ) → (sh .at ≡ a → k₂ ≡ getD b₂ a 0 / W) → (sh .at ≢ a → k₂ ≡ k)
@@ -234,7 +233,7 @@ module _ (W : ℕ) (pos : 0 < W) (fresh : ℕ → ℕ) (b b₂ : List ℕ) (new 
   stop h k n o a r k₂ own other =
       let len = length-build W pos b fresh h k n o new c in
       rw (own refl, r .value, len)
-      (build-changed W pos b fresh b₂ lim nonzero top below h k n o new c n (touched-new W h k n o (length new) some) (omega (arith, len, r .room)) small (r .holds)
+      (build-changed W pos b fresh b₂ within h k n o new c n (touched-new W h k n o (length new) some) (omega (arith, len, r .room)) small (r .holds)
       (frame W pos b b₂ h k n (λ q f t l. r .replaced .same q f t l (λ e. omega (arith, subst (λ (x : ℕ). 0 < occ x (blocks W b h k n)) (sym (block-of W q t a l e)) f, r .outside))))
       (omega arith) (omega (arith, r .within)) (λ u. r .within) (λ i u w l. absurd (omega arith)))
 
@@ -253,19 +252,19 @@ module _ (W : ℕ) (pos : 0 < W) (fresh : ℕ → ℕ) (b b₂ : List ℕ) (new 
         | inr f ↦ omega (arith, occ-child W pos b h k n live (sh .at / W) j (place .which))
       ] in
       let moved : sh .at ≢ a = λ e. omega (arith, subst (λ (x : ℕ). 0 < occ (x / W) (blocks W b (suc h) (suc k) n)) e inner, r .outside) in
-      rw (other moved) (down W pos b b₂ (sh .at) h k n live (r .replaced) top o new (λ q. used fresh q c (length (sh .pages))) (λ q. occ q given) (r .under) fits
+      rw (other moved) (down pos live (r .replaced) top o new (λ q. used fresh q c (length (sh .pages))) (λ q. occ q given) (r .under) fits
       (elim spot [ inl e ↦ inl (e, r .low moved) | inr f ↦ inr f ])
       (ih (record {
-        replaced = child-replaced W pos b b₂ (sh .at) h k n live (r .replaced) j (place .which);
+        replaced = child-replaced pos live (r .replaced) j (place .which);
         within = omega (arith, r .within, place .there);
         under = place .inside;
-        outside = rw (address-block W (suc k) j (place .which)) (root-above W pos b b₂ (sh .at) h k n live (r .replaced) j (place .which));
+        outside = rw (address-block W (suc k) j (place .which)) (root-above pos live (r .replaced) j (place .which));
         holds = r .holds;
         room = r .room;
         value = r .value;
         low = λ d. r .low moved;
       }) (cell W b₂ (suc k) j / W) (λ e. refl)
-      (λ d. ap (λ (x : ℕ). x / W) (sym (root-word W pos b b₂ (sh .at) h k n live (r .replaced) j (place .which) (λ e. d (sym e)))))))
+      (λ d. ap (λ (x : ℕ). x / W) (sym (root-word pos live (r .replaced) j (place .which) (λ e. d (sym e)))))))
 
   pub descend-changed : (h k n o a : ℕ) → let sh = descend W fresh b h k n o new c a in Committed W fresh b b₂ c lim (length new) sh h k n o a
       → (k₂ : ℕ) → (sh .at ≡ a → k₂ ≡ getD b₂ a 0 / W) → (sh .at ≢ a → k₂ ≡ k)
@@ -386,11 +385,11 @@ module _ (new : List ℕ) (small : Small new) where
         let inner : 0 < occ (A / W) (childBlocks W b h (suc k) n j) =
         rw (block-of W K (o % span W 0 / 8) A (word-in-block W pos o) at) (walk-inside W b pos h (cell W b (suc k) j / W) (n - j * s) (o % s) K (place .inside) to) in
         let kept-word : cell W b (suc k) j ≡ cell W b₂ (suc k) j =
-        root-word W pos b b₂ A h k n live r j (place .which) (inner-word W pos b b₂ A h k n live r j j (place .which) (place .which) inner) in
-        down W pos b b₂ A h k n live r top o new (λ q. 0) (λ q. 0) u (omega (arith, place .inside, span-power W h, place-in-word W h o)) (inr inner)
+        root-word pos live r j (place .which) (inner-word pos live r j j (place .which) (place .which) inner) in
+        down pos live r top o new (λ q. 0) (λ q. 0) u (omega (arith, place .inside, span-power W h, place-in-word W h o)) (inr inner)
         (subst (λ (w : ℕ). Changed W b b₂ top h (cell W b (suc k) j / W) (w / W) (n - j * s) (n - j * s) (o % s) new (λ q. 0) (λ q. 0)) kept-word
         (walk-changed h (cell W b (suc k) j / W) (n - j * s) (o % s) K (place .inside) (place-in-word W h o ∙ e)
-        (ap (λ (x : ℕ). W * K + x / 8) (place-in-block W pos h o) ∙ at) to (child-replaced W pos b b₂ A h k n live r j (place .which))))
+        (ap (λ (x : ℕ). W * K + x / 8) (place-in-block W pos h o) ∙ at) to (child-replaced pos live r j (place .which))))
 
 module _ (W : ℕ) (pos : 0 < W) (b b₂ : List ℕ) (new : List ℕ) (small : Small new) (top : ℕ) where
   -- `new` lies in one word, of the data block K: only that word is stored

@@ -70,7 +70,7 @@ pub record StepTo (g : Layout) (touched : ℕ → Bool) (b : List ℕ) (p : Step
 abbrev pub theFile : ℕ → ℕ → Bool
 theFile f e = eqb e f
 
-module _ (g : Layout) (b : List ℕ) (f : ℕ) (p : Step) (wanted : List ℕ) (s : GoodStep g b f p wanted) where
+module _ {g : Layout} {b : List ℕ} {f : ℕ} {p : Step} {wanted : List ℕ} (s : GoodStep g b f p wanted) where
   good-walks : Stays g (theFile f) b (committed b p)
   good-walks e u z = s .outcome .kept e u (λ same. false≢true (sym z ∙ eq-eqb e f same)) .walks
 
@@ -98,8 +98,8 @@ module _ (g : Layout) (b : List ℕ) (f : ℕ) (p : Step) (wanted : List ℕ) (s
     reads = λ e u. elim (decide e f) [ inl z ↦ rw z (s .outcome .reads ∙ quiet) | inr n ↦ s .outcome .kept e u n .reads ];
   }
 
-pub step-safe : (g : Layout) (touched : ℕ → Bool) (b : List ℕ) (p : Step) (wanted : ℕ → List ℕ) (At : ℕ → Type 0) → StepTo g touched b p wanted At → SafeStep g touched b p
-step-safe g touched b p wanted At s = record { hides = all-holds (hidden g b) (p .hidden) (s .hides); accepts = s .board; walks = s .walks }
+pub step-safe : {g : Layout} {touched : ℕ → Bool} {b : List ℕ} {p : Step} {wanted : ℕ → List ℕ} {At : ℕ → Type 0} → StepTo g touched b p wanted At → SafeStep g touched b p
+step-safe {g} {b = b} {p} s = record { hides = all-holds (hidden g b) (p .hidden) (s .hides); accepts = s .board; walks = s .walks }
 
 -- Steps each good on the board that those before it leave, the last making each file read as wanted, those before leaving all as they read. The last may
 -- be committed where Last allows it, those before in blocks 1 to B − 2
@@ -119,12 +119,12 @@ module _ (g : Layout) (fit : Fits g) (b : List ℕ) (t : T (accepted g b)) (ss :
       (λ s h. address-on-board g fit b (facts g fit b t .sizes) (s .at) (omega (arith, hidden-in-range g fit b t s h .1))) ss hides)
 
 -- of pages stored to fresh blocks
-module _ (g : Layout) (fit : Fits g) (b : List ℕ) (t : T (accepted g b)) (fresh : ℕ → ℕ) (c lim : ℕ) (supply : Supply g b fresh c lim) (ps : List Page) (room : c + length ps ≤ lim) where
+module _ {g : Layout} (fit : Fits g) {b : List ℕ} (t : T (accepted g b)) {fresh : ℕ → ℕ} {c lim : ℕ} (supply : Supply g b fresh c lim) (ps : List Page) (room : c + length ps ≤ lim) where
   pub pages-hidden : All (λ s. T (hidden g b s)) (stored (g .words) fresh ps c)
-  pages-hidden = stored-hidden g b fresh c lim supply fit ps room
+  pages-hidden = stored-hidden supply fit ps room
 
   pub pages-once : (x : ℕ) → occ x (addresses (stored (g .words) fresh ps c)) ≤ 1
-  pages-once = stored-apart g b fresh c lim supply ps room
+  pages-once = stored-apart supply ps room
 
   pub pages-same : Same g b (performed b (stored (g .words) fresh ps c))
   pages-same = epoch-same g fit b t (stored (g .words) fresh ps c) pages-hidden
@@ -134,4 +134,4 @@ module _ (g : Layout) (fit : Fits g) (b : List ℕ) (t : T (accepted g b)) (fres
   pages-held a v live =
       let ss : List Store = stored (g .words) fresh ps c in
       held-of-all (g .words) fresh (set (performed b ss) a v) ps c
-      (stands-set (performed b ss) ss a v (stored-not-live g b fresh c lim supply ps room a live) (epoch-stands g fit b t ss pages-hidden pages-once))
+      (stands-set (performed b ss) ss a v (stored-not-live supply ps room a live) (epoch-stands g fit b t ss pages-hidden pages-once))

@@ -18,7 +18,7 @@ use Rattle.model.proofs.Spans.{child, span-pos, span-mono}
 use Rattle.model.proofs.Perform.{length-tabulate}
 use Rattle.model.proofs.Trees.{walk-null, blocks-null, sound-null}
 use Rattle.model.proofs.Agree.{byteAt, spanByte, agree, byteAt-null, span-byte-in, span-byte-past, span-byte-null, agree-span-byte, link-cell, agree-blocks, agree-sound, beneath, occ-node, sound-node, aligned-zero}
-use Rattle.model.proofs.Built.{held, held-left, held-right, used}
+use Rattle.model.proofs.Built.{Between, held, held-left, held-right, used}
 use Rattle.model.proofs.Shown.{agree-walk}
 
 module _ (W : ℕ) (b b′ : List ℕ) (top : ℕ) where
@@ -108,7 +108,7 @@ module _ (W : ℕ) (fresh : ℕ → ℕ) where
   unfolding tabulate held
   last-level pos b d f g = subst (λ (c : ℕ). (j : ℕ) → j < W → cell W b (fresh c) j ≡ f d j) (omega (arith, length-tabulate d f)) (held-right W pos b fresh b (tabulate d f) (f d ∷ []) 0 g .0)
 
-module _ (W : ℕ) (pos : 0 < W) (b b′ : List ℕ) (top : ℕ) (fresh : ℕ → ℕ) (lim : ℕ) (nonzero : (i : ℕ) → i < lim → 0 < fresh i) (below : (i : ℕ) → i < lim → fresh i < top) where
+module _ (W : ℕ) (pos : 0 < W) (b b′ : List ℕ) {fresh : ℕ → ℕ} {lim top : ℕ} (within : Between fresh lim top) where
   -- d blocks over block k, one after the other
   grown-over : (h k n d : ℕ) → 0 < n → d ≤ lim → held W fresh b′ (tabulate d (λ i. levelPage W (levelBelow fresh k i))) 0 → agree W b b′ h k n
       → Grown W b b′ top h k (h + d) (levelBelow fresh k d) n (λ q. used fresh q 0 d)
@@ -123,12 +123,12 @@ module _ (W : ℕ) (pos : 0 < W) (b b′ : List ℕ) (top : ℕ) (fresh : ℕ �
       let f : ℕ → Page = λ i. levelPage W (levelBelow fresh k i) in
       let old : Grown W b b′ top h k (h + d) (levelBelow fresh k d) n (λ q. used fresh q 0 d) = grown-over h k n d live (omega arith) (held-left W pos b fresh b′ (tabulate d f) (f d ∷ []) 0 g) a in
       let page : (j : ℕ) → j < W → cell W b′ (fresh d) j ≡ f d j = last-level W fresh pos b′ d f g in
-      let there : 0 < fresh d = nonzero d (omega arith) in
+      let there : 0 < fresh d = within .nonzero d (omega arith) in
       rw (add-suc h d) (record {
         bytes = λ i. grow-byte W pos b′ (h + d) (levelBelow fresh k d) (fresh d) n there page i ∙ old .bytes i;
         walks = λ i l. grow-walk W pos b′ (h + d) (levelBelow fresh k d) (fresh d) n there page i (omega (arith, span-mono W pos h (h + d) (omega arith))) ∙ old .walks i l;
         counts = λ q. omega (arith, grow-occ W pos b′ (h + d) (levelBelow fresh k d) (fresh d) n there page live q, old .counts q, used-next fresh q d);
-        fine = λ t. grow-sound W pos b′ (h + d) (levelBelow fresh k d) (fresh d) n there page top (below d (omega arith)) (old .fine t);
+        fine = λ t. grow-sound W pos b′ (h + d) (levelBelow fresh k d) (fresh d) n there page top (within .below d (omega arith)) (old .fine t);
       })
 
   -- the levels of a plan: over a null tree there are none, and it stays null

@@ -4,17 +4,17 @@ use mathlib.Core.Path.{_≡_, refl, sym, _∙_}
 use mathlib.Core.Logic.{inl, inr}
 use mathlib.Core.Bool.{Bool, false, _&&_}
 use mathlib.Core.List.{List, []}
-use Prim.Native.Nat.{ℕ, zero, suc, _-_, _/_, _%_, _≤_, _<_}
+use Prim.Native.Nat.{ℕ, zero, suc, _+_, _-_, _/_, _%_, _≤_, _<_}
 use native.Mathlib.Omega.{arith}
 use native.Mathlib.Nat.{le-div-iff-mul-le}
 use lib.ListN.{length}
-use lib.Dec.{T, leb, eqb}
+use lib.Dec.{leb, eqb}
 use borrow.Author.Tests.{lt-ltb, le-ltb, eqb-true}
 use Rattle.model.specs.declared.WalkEnd.the-variants.{Hole}
 use Rattle.model.specs.Lists.{concat}
-use Rattle.model.specs.Layout.{Layout, Fits, files}
+use Rattle.model.specs.Layout.{Layout}
 use Rattle.model.specs.Tree.{span, least, walk}
-use Rattle.model.specs.Board.{rootWalk, greatest, root, size, inodeOf, walkTo, accepted}
+use Rattle.model.specs.Board.{rootWalk, greatest, root, size, inodeOf, walkTo}
 use Rattle.model.specs.Store.{performed}
 use Rattle.model.specs.Plan.{plan, planEpochs}
 use Rattle.model.specs.Fresh.{Page}
@@ -28,6 +28,7 @@ use Rattle.model.proofs.Grown.{other-block, last-level}
 use Rattle.model.proofs.Shown.{words-pos}
 use Rattle.model.proofs.Supplied.{Supply}
 use Rattle.model.proofs.Steps.{committed}
+use Rattle.model.proofs.Writing.{Writing, Growing}
 use Rattle.model.proofs.GrowthWay.{growthStep, growth-performed, growing-more, growing-cases, growth-size, growth-inode, growth-address, growth-root, growth-height, growth-top, growth-held}
 
 -- c is the board that growth leaves of b, for a write to file f from o up to e
@@ -79,54 +80,47 @@ module _ (W : ℕ) (pos : 0 < W) (b : List ℕ) (fresh : ℕ → ℕ) (lim : ℕ
 
 -- ---- The board
 
-module _ (g : Layout) (fit : Fits g) (b : List ℕ) (t : T (accepted g b)) (f : ℕ) (f-lt : f < files g) (fresh : ℕ → ℕ) (lim : ℕ) (supply : Supply g b fresh 0 lim)
-    (o e : ℕ) (some : o < e) (most : e ≤ greatest g) where
-  -- no growth
-  same-board : growing g b f e ≡ false → GrownBoard g fresh b (performed b (concat (planEpochs (plan [] 0 .steps)))) f o e
-  unfolding plan planEpochs concat performed grownInode
-  same-board still = record { inode = rw still; single = refl }
+-- no growth
+same-board : (g : Layout) (fresh : ℕ → ℕ) (b : List ℕ) (f o e : ℕ) → growing g b f e ≡ false → GrownBoard g fresh b (performed b (concat (planEpochs (plan [] 0 .steps)))) f o e
+unfolding plan planEpochs concat performed grownInode
+same-board g fresh b f o e still = record { inode = rw still; single = refl }
 
-  module _ (live : 0 < size g b f) (more : span (g .words) (root g b f % g .words) < e) where
-    abbrev h : ℕ
-    h = least (g .words) (g .height) e
+module _ {g : Layout} {b : List ℕ} {f e : ℕ} (w : Growing g b f e) {fresh : ℕ → ℕ} {lim : ℕ} (supply : Supply g b fresh 0 lim)
+    (room : growthTo g fresh b f (least (g .words) (g .height) e) .taken ≤ lim) (o : ℕ) (some : o < e) where
+  abbrev h : ℕ
+  h = least (g .words) (g .height) e
 
-    abbrev W : ℕ
-    W = g .words
+  abbrev W : ℕ
+  W = g .words
 
-    module _ (room : growthTo g fresh b f h .taken ≤ lim) where
-      abbrev c : List ℕ
-      c = committed b (growthStep g fresh b f h)
+  abbrev c : List ℕ
+  c = committed b (growthStep g fresh b f h)
 
-      -- where all bytes are in one word, the first is in a hole
-      new-hole : o / 8 ≡ (e - 1) / 8 → walkTo g c f o ≡ Hole
-      unfolding walkTo rootWalk greatest growthTo plan
-      new-hole word =
-          let pos : 0 < W = words-pos g fit in
-          let reaches : e ≤ span W h = least-reaches W pos (g .height) e most in
-          let higher : root g b f % W < h = elim (split h (root g b f % W)) [ inl u ↦ absurd (omega (arith, span-mono W pos h (root g b f % W) u)) | inr u ↦ u ] in
-          let high : root g c f % W ≡ h = growth-height g fit b t f f-lt live fresh lim supply e most more room in
-          let top : root g c f / W ≡ levelTop fresh (root g b f / W) (h - root g b f % W) = growth-top g fit b t f f-lt live fresh lim supply e most more room in
-          rw (high, top, lt-ltb o (span W h) (omega (arith, some, reaches)))
-          (top-past W pos c fresh lim (supply .nonzero) h (root g b f / W) (h - root g b f % W) (size g c f) o (omega arith) room
-          (growth-held g fit b t f f-lt live fresh lim supply e most more room)
-          (λ x u. word-past W x o e some word (least-least W pos (g .height) e x u)) (omega arith) (omega (arith, some, reaches)))
+  -- where all bytes are in one word, the first is in a hole
+  new-hole : o / 8 ≡ (e - 1) / 8 → walkTo g c f o ≡ Hole
+  unfolding walkTo rootWalk greatest growthTo plan
+  new-hole word =
+      let pos : 0 < W = words-pos g (w .on .fit) in
+      let reaches : e ≤ span W h = least-reaches W pos (g .height) e (w .most) in
+      let higher : root g b f % W < h = elim (split h (root g b f % W)) [ inl u ↦ absurd (omega (arith, w .more, span-mono W pos h (root g b f % W) u)) | inr u ↦ u ] in
+      rw (growth-height w supply room, growth-top w supply room, lt-ltb o (span W h) (omega (arith, some, reaches)))
+      (top-past W pos c fresh lim (supply .between .nonzero) h (root g b f / W) (h - root g b f % W) (size g c f) o (omega arith) room (growth-held w supply room)
+      (λ x u. word-past W x o e some word (least-least W pos (g .height) e x u)) (omega arith) (omega (arith, some, reaches)))
 
-      larger-board : GrownBoard g fresh b (performed b (concat (planEpochs (growthTo g fresh b f h .steps)))) f o e
-      unfolding grownInode
-      larger-board = rw (growth-performed g fresh b f h) (record {
-        inode = rw (
-          growing-more g b f e live more,
-          growth-inode g fit b t f f-lt live fresh lim supply e most more room,
-          growth-address g fit b t f f-lt live fresh lim supply e most more room,
-          growth-root g fit b t f f-lt live fresh lim supply e most more room,
-          growth-size g fit b t f f-lt live fresh lim supply e most more room,
-        );
-        single = single-hole g c f o e new-hole ∙ sym (single-past g b f o e some more);
-      })
+  larger-board : GrownBoard g fresh b (performed b (concat (planEpochs (growthTo g fresh b f h .steps)))) f o e
+  unfolding grownInode
+  larger-board = rw (growth-performed g fresh b f h) (record {
+    inode = rw (growing-more w, growth-inode w supply room, growth-address w supply room, growth-root w supply room, growth-size w supply room);
+    single = single-hole g c f o e new-hole ∙ sym (single-past g b f o e some (w .more));
+  })
+
+module _ {g : Layout} {b : List ℕ} {f o : ℕ} {new : List ℕ} (w : Writing g b f o new) (some : 0 < length new) {fresh : ℕ → ℕ} {lim : ℕ} (supply : Supply g b fresh 0 lim) where
+  abbrev e : ℕ
+  e = o + length new
 
   pub grown-board : growth g fresh b f e .taken ≤ lim → GrownBoard g fresh b (performed b (concat (planEpochs (growth g fresh b f e .steps)))) f o e
   unfolding growth
-  grown-board room = elim (growing-cases g b f e) [
-    | inl c ↦ rw (c .0) (same-board (c .0))
-    | inr c ↦ rw (c .0) (larger-board (c .1) (c .2) (rw (c .0) at room))
+  grown-board room = elim (growing-cases w) [
+    | inl still ↦ rw (still .0) (same-board g fresh b f o e (still .0))
+    | inr more ↦ rw (growing-more more) (larger-board more supply (rw (growing-more more) at room) o (omega arith))
   ]

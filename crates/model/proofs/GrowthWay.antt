@@ -8,12 +8,11 @@ use Prim.Native.Nat.{ℕ, _+_, _-_, _/_, _%_, _≤_, _<_}
 use native.Mathlib.Omega.{arith}
 use native.Mathlib.Nat.{mod-eq-of-lt, mul-add-mod-self-left, zero-add}
 use lib.ListN.{length, set, length-set}
-use lib.Dec.{T}
 use borrow.Author.Tests.{lt-ltb, le-ltb}
 use Rattle.model.specs.Lists.{concat, occ}
-use Rattle.model.specs.Layout.{Layout, Fits, files}
+use Rattle.model.specs.Layout.{Layout, files}
 use Rattle.model.specs.Tree.{live, span, least}
-use Rattle.model.specs.Board.{rootWalk, rootBlocks, greatest, blockCount, inodeBlock, rootAddress, sizeAddress, root, size, walkTo, contents, fileBlocks, liveBlocks, accepted}
+use Rattle.model.specs.Board.{rootWalk, rootBlocks, greatest, blockCount, inodeBlock, rootAddress, sizeAddress, root, size, walkTo, contents, fileBlocks, liveBlocks}
 use Rattle.model.specs.Store.{Store, store, performed}
 use Rattle.model.specs.Plan.{Step, step, plan, planEpochs}
 use Rattle.model.specs.Fresh.{Page, stored}
@@ -27,14 +26,15 @@ use Rattle.model.proofs.Agree.{agree, agree-away, agree-blocks, agree-t
 use Rattle.model.proofs.Built.{held, used}
 use Rattle.model.proofs.Grown.{Grown, grown}
 use Rattle.model.proofs.Shown.{Same, words-pos, leaf-of, same-address, count-kept, inode-kept, root-block, leaf-live}
-use Rattle.model.proofs.Accepting.{accepted-parts, Facts, facts}
+use Rattle.model.proofs.Accepting.{FileOn, accepted-parts, Facts, facts}
 use Rattle.model.proofs.Commits.{FileCommit, grown-commit, Others, others-from}
 use Rattle.model.proofs.Apart.{Spot, leaf-not-file, spot-ranged, spot-live, spot-trailer, spot-address, spot-size, spot-others, stored-root}
-use Rattle.model.proofs.Committing.{facts-same, spot-same, spot-commit, spot-counts}
+use Rattle.model.proofs.Committing.{on-same, spot-same, spot-commit, spot-counts}
 use Rattle.model.proofs.Supplied.{Supply, supply-once}
 use Rattle.model.proofs.Steps.{committed, allCommitted, performed-steps}
 use Rattle.model.proofs.GoodSteps.{GoodStep, pages-hidden, pages-once, pages-same, pages-held}
 use Rattle.model.proofs.Taking.{Takes}
+use Rattle.model.proofs.Writing.{Writing, Spanned, Growing}
 
 -- ---- The plan
 
@@ -52,10 +52,13 @@ module _ (g : Layout) (fresh : ℕ → ℕ) (b : List ℕ) (f h : ℕ) where
   unfolding growthTo plan allCommitted
   growth-performed = performed-steps b (growthStep ∷ [])
 
-module _ (g : Layout) (b : List ℕ) (f e : ℕ) where
-  -- *If s > 0 and e exceeds the span*, and only then
-  pub growing-more : 0 < size g b f → span (g .words) (root g b f % g .words) < e → growing g b f e ≡ true
-  growing-more some more = rw (live-some (size g b f) some, lt-ltb (span (g .words) (root g b f % g .words)) e more)
+-- *If s > 0 and e exceeds the span*, and only then
+pub growing-more : {g : Layout} {b : List ℕ} {f e : ℕ} → Growing g b f e → growing g b f e ≡ true
+growing-more {g} {b} {f} {e} w = rw (live-some (size g b f) (w .live), lt-ltb (span (g .words) (root g b f % g .words)) e (w .more))
+
+module _ {g : Layout} {b : List ℕ} {f o : ℕ} {new : List ℕ} (w : Writing g b f o new) where
+  abbrev e : ℕ
+  e = o + length new
 
   growing-empty : size g b f ≡ 0 → growing g b f e ≡ false
   unfolding live
@@ -64,34 +67,34 @@ module _ (g : Layout) (b : List ℕ) (f e : ℕ) where
   growing-spanned : e ≤ span (g .words) (root g b f % g .words) → growing g b f e ≡ false
   growing-spanned l = rw (le-ltb (span (g .words) (root g b f % g .words)) e l, and-false)
 
-  pub growing-cases : ((growing g b f e ≡ false) × (0 < size g b f → e ≤ span (g .words) (root g b f % g .words)))
-      ⊎ ((growing g b f e ≡ true) × (0 < size g b f) × (span (g .words) (root g b f % g .words) < e))
+  pub growing-cases : ((growing g b f e ≡ false) × Spanned g b f e) ⊎ Growing g b f e
   growing-cases = elim (split (size g b f) 0) [
     | inl z ↦ inl (growing-empty (omega arith), λ l. absurd (omega arith))
     | inr l ↦ elim (split e (span (g .words) (root g b f % g .words))) [
       | inl u ↦ inl (growing-spanned u, λ z. u)
-      | inr m ↦ inr (growing-more l m, l, m)
+      | inr m ↦ inr (record { on = w .on; live = l; more = m; most = w .most })
     ]
   ]
 
-module _ (g : Layout) (fit : Fits g) (fresh : ℕ → ℕ) (b : List ℕ) (f h : ℕ) where
-  pub growth-takes : f < files g → Takes g b fresh 0 (growthTo g fresh b f h .taken) (growthStep g fresh b f h)
-  unfolding growthTo plan step store All
-  growth-takes f-lt = record {
-    pages = growthPages g fresh b f h;
-    others = [];
-    is = sym (append-nil (stored (g .words) fresh (growthPages g fresh b f h) 0));
-    count = sym (zero-add (length (growthPages g fresh b f h)));
-    others-live = tt;
-    commit-live = rw (root-block g fit b f) (leaf-live g b (f / g .inodes) (leaf-of g fit f f-lt));
-  }
+pub growth-takes : {g : Layout} {b : List ℕ} {f : ℕ} → FileOn g b f → (fresh : ℕ → ℕ) (h : ℕ) → Takes g b fresh 0 (growthTo g fresh b f h .taken) (growthStep g fresh b f h)
+unfolding growthTo plan step store All
+growth-takes {g} {b} {f} on fresh h = record {
+  pages = growthPages g fresh b f h;
+  others = [];
+  is = sym (append-nil (stored (g .words) fresh (growthPages g fresh b f h) 0));
+  count = sym (zero-add (length (growthPages g fresh b f h)));
+  others-live = tt;
+  commit-live = rw (root-block g (on .fit) b f) (leaf-live g b (f / g .inodes) (leaf-of g (on .fit) f (on .file)));
+}
 
 -- ---- The step
 
-module _ (g : Layout) (fit : Fits g) (b : List ℕ) (t : T (accepted g b)) (f : ℕ) (f-lt : f < files g) (some : 0 < size g b f) (fresh : ℕ → ℕ) (lim : ℕ) (supply : Supply g b fresh 0 lim)
-    (e : ℕ) (most : e ≤ greatest g) (more : span (g .words) (root g b f % g .words) < e) where
+module _ {g : Layout} {b : List ℕ} {f e : ℕ} (w : Growing g b f e) {fresh : ℕ → ℕ} {lim : ℕ} (supply : Supply g b fresh 0 lim) where
+  open Growing w using (on)
+  open FileOn on using (fit, board, file)
+
   ok : Facts g b
-  ok = facts g fit b t
+  ok = facts g fit b board
 
   pos : 0 < g .words
   pos = words-pos g fit
@@ -102,11 +105,11 @@ module _ (g : Layout) (fit : Fits g) (b : List ℕ) (t : T (accepted g b)) (f : 
 
   reaches : e ≤ span (g .words) h
   unfolding greatest
-  reaches = least-reaches (g .words) pos (g .height) e most
+  reaches = least-reaches (g .words) pos (g .height) e (w .most)
 
   higher : root g b f % g .words ≤ h
   unfolding greatest
-  higher = least-above (g .words) pos (g .height) e (root g b f % g .words) most more
+  higher = least-above (g .words) pos (g .height) e (root g b f % g .words) (w .most) (w .more)
 
   low-enough : h ≤ g .height
   low-enough = least-within (g .words) pos (g .height) e
@@ -130,7 +133,11 @@ module _ (g : Layout) (fit : Fits g) (b : List ℕ) (t : T (accepted g b)) (f : 
 
     shown-same : Same g b c₁
     unfolding c₁
-    shown-same = pages-same g fit b t fresh 0 lim supply ps fits
+    shown-same = pages-same fit board supply ps fits
+
+    -- the file there
+    on₁ : FileOn g c₁ f
+    on₁ = on-same on shown-same
 
     value : ℕ
     value = grownRoot g fresh b f h
@@ -140,21 +147,21 @@ module _ (g : Layout) (fit : Fits g) (b : List ℕ) (t : T (accepted g b)) (f : 
     done = set c₁ (rootAddress g b f) value
 
     address-same : rootAddress g b f ≡ rootAddress g c₁ f
-    address-same = same-address g fit b c₁ shown-same f (leaf-of g fit f f-lt)
+    address-same = same-address g fit b c₁ shown-same f (leaf-of g fit f file)
 
-    lent-spot : Spot g fit b ok f f-lt (rootAddress g b f)
+    lent-spot : Spot g b f (rootAddress g b f)
     lent-spot = inl (inl refl)
 
-    commit-spot : Spot g fit c₁ (facts-same g fit b c₁ t shown-same) f f-lt (rootAddress g b f)
-    commit-spot = spot-same g fit b c₁ t shown-same f f-lt (rootAddress g b f) lent-spot
+    commit-spot : Spot g c₁ f (rootAddress g b f)
+    commit-spot = spot-same on shown-same (rootAddress g b f) lent-spot
 
     held-done : held (g .words) fresh done ps 0
     unfolding done c₁
-    held-done = pages-held g fit b t fresh 0 lim supply ps fits (rootAddress g b f) value (spot-live g fit b ok f f-lt (rootAddress g b f) lent-spot)
+    held-done = pages-held fit board supply ps fits (rootAddress g b f) value (spot-live on (rootAddress g b f) lent-spot)
 
     root-done : root g done f ≡ value
     unfolding done
-    root-done = stored-root g fit c₁ (facts-same g fit b c₁ t shown-same) f f-lt (rootAddress g b f) value commit-spot address-same
+    root-done = stored-root on₁ (rootAddress g b f) value commit-spot address-same
 
     height-done : root g done f % g .words ≡ h
     unfolding value
@@ -166,7 +173,7 @@ module _ (g : Layout) (fit : Fits g) (b : List ℕ) (t : T (accepted g b)) (f : 
 
     size-done : size g b f ≡ size g done f
     unfolding done sizeAddress
-    size-done = shown-same .sizes f f-lt ∙ spot-size g fit c₁ (facts-same g fit b c₁ t shown-same) f f-lt (rootAddress g b f) value commit-spot f f-lt (λ x. omega (arith, x, address-same))
+    size-done = shown-same .sizes f file ∙ spot-size on₁ (rootAddress g b f) value commit-spot f file (λ x. omega (arith, x, address-same))
 
     len : length b ≡ length done
     unfolding done
@@ -176,8 +183,8 @@ module _ (g : Layout) (fit : Fits g) (b : List ℕ) (t : T (accepted g b)) (f : 
     tree-stays : agree (g .words) b done (root g b f % g .words) (root g b f / g .words) (size g b f)
     unfolding done fileBlocks rootBlocks
     tree-stays =
-        let tree = shown-same .trees f f-lt in
-        let away : occ (rootAddress g b f / g .words) (fileBlocks g b f) ≡ 0 = rw (root-block g fit b f) (leaf-not-file g b (ok .once) (f / g .inodes) f (leaf-of g fit f f-lt) f-lt) in
+        let tree = shown-same .trees f file in
+        let away : occ (rootAddress g b f / g .words) (fileBlocks g b f) ≡ 0 = rw (root-block g fit b f) (leaf-not-file g b (ok .once) (f / g .inodes) f (leaf-of g fit f file) file) in
         agree-trans (g .words) pos b c₁ done (root g b f % g .words) (root g b f / g .words) (size g b f) tree
         (agree-away (g .words) pos c₁ (rootAddress g b f) value (root g b f % g .words) (root g b f / g .words) (size g b f)
         (rw (← (agree-blocks (g .words) pos b c₁ (root g b f % g .words) (root g b f / g .words) (size g b f) tree)) away))
@@ -186,21 +193,21 @@ module _ (g : Layout) (fit : Fits g) (b : List ℕ) (t : T (accepted g b)) (f : 
     tree-grown =
         let reached : root g b f % g .words + (h - root g b f % g .words) ≡ h = omega (arith, higher) in
         rw block-done (subst (λ (x : ℕ). Grown (g .words) b done (blockCount g b - 1) (root g b f % g .words) (root g b f / g .words) x top (size g b f) (λ q. used fresh q 0 (length ps))) reached
-        (grown (g .words) pos b done (blockCount g b - 1) fresh lim (supply .nonzero) (supply .below) (root g b f % g .words) (root g b f / g .words) (size g b f) (h - root g b f % g .words) some (omega (arith, fits)) held-done tree-stays))
+        (grown (g .words) pos b done (supply .between) (root g b f % g .words) (root g b f / g .words) (size g b f) (h - root g b f % g .words) (w .live) (omega (arith, fits)) held-done tree-stays))
 
     file-grown : FileCommit g b done f (contents g b f) (λ q. used fresh q 0 (length ps)) (λ q. 0)
-    file-grown = grown-commit g fit b done len f h (λ q. used fresh q 0 (length ps)) some size-done height-done low-enough tree-grown (accepted-parts g b t .files-sound f f-lt)
+    file-grown = grown-commit g fit b done len f h (λ q. used fresh q 0 (length ps)) (w .live) size-done height-done low-enough tree-grown (accepted-parts g b board .files-sound f file)
 
     met-once : (q : ℕ) → occ q (liveBlocks g b) + used fresh q 0 (length ps) ≤ 1
-    met-once = supply-once g b fresh 0 lim supply (ok .once) (length ps) fits
+    met-once = supply-once supply (ok .once) (length ps) fits
 
     pub growth-good : GoodStep g b f (growthStep g fresh b f h) (contents g b f)
     unfolding step store committed done c₁ value
     growth-good = record {
-      hides = pages-hidden g fit b t fresh 0 lim supply ps fits;
-      once = pages-once g fit b t fresh 0 lim supply ps fits;
-      within = spot-ranged g fit b ok f f-lt (rootAddress g b f) lent-spot;
-      outcome = spot-commit g fit b c₁ t shown-same f f-lt (rootAddress g b f) value commit-spot (contents g b f) (λ q. used fresh q 0 (length ps)) (λ q. 0) file-grown met-once;
+      hides = pages-hidden fit board supply ps fits;
+      once = pages-once fit board supply ps fits;
+      within = spot-ranged on (rootAddress g b f) lent-spot;
+      outcome = spot-commit on shown-same (rootAddress g b f) value commit-spot file-grown met-once;
     }
 
     -- ---- The grown board
@@ -212,7 +219,7 @@ module _ (g : Layout) (fit : Fits g) (b : List ℕ) (t : T (accepted g b)) (f : 
     -- the other files are as they were
     pub growth-others : Others g b (committed b (growthStep g fresh b f h)) f
     unfolding step store committed done c₁ value
-    growth-others = others-from g pos b c₁ done f shown-same (spot-others g fit c₁ (facts-same g fit b c₁ t shown-same) f f-lt (rootAddress g b f) value commit-spot)
+    growth-others = others-from pos shown-same (spot-others on₁ (rootAddress g b f) value commit-spot)
 
     pub growth-length : length (committed b (growthStep g fresh b f h)) ≡ length b
     unfolding step store committed done c₁ value
@@ -221,16 +228,15 @@ module _ (g : Layout) (fit : Fits g) (b : List ℕ) (t : T (accepted g b)) (f : 
     -- the inode is where it was
     pub growth-inode : inodeBlock g (committed b (growthStep g fresh b f h)) ≡ inodeBlock g b
     unfolding step store committed done c₁ value
-    growth-inode = sym (inode-kept g b done len fit
-        (λ j l. shown-same .trailers j l ∙ spot-trailer g fit c₁ (facts-same g fit b c₁ t shown-same) f f-lt (rootAddress g b f) value commit-spot j l))
+    growth-inode = sym (inode-kept g b done len fit (λ j l. shown-same .trailers j l ∙ spot-trailer on₁ (rootAddress g b f) value commit-spot j l))
 
     -- and every file's
     pub growth-addresses : (i : ℕ) → i < files g → rootAddress g b i ≡ rootAddress g (committed b (growthStep g fresh b f h)) i
     unfolding step store committed done c₁ value
-    growth-addresses i u = same-address g fit b c₁ shown-same i (leaf-of g fit i u) ∙ spot-address g fit c₁ (facts-same g fit b c₁ t shown-same) f f-lt (rootAddress g b f) value commit-spot i u
+    growth-addresses i u = same-address g fit b c₁ shown-same i (leaf-of g fit i u) ∙ spot-address on₁ (rootAddress g b f) value commit-spot i u
 
     pub growth-address : rootAddress g (committed b (growthStep g fresh b f h)) f ≡ rootAddress g b f
-    growth-address = sym (growth-addresses f f-lt)
+    growth-address = sym (growth-addresses f file)
 
     pub growth-root : root g (committed b (growthStep g fresh b f h)) f ≡ grownRoot g fresh b f h
     unfolding step store committed done c₁ value
@@ -262,7 +268,7 @@ module _ (g : Layout) (fit : Fits g) (b : List ℕ) (t : T (accepted g b)) (f : 
     -- the live blocks are those of b and those of the levels
     counts-done : (q : ℕ) → occ q (liveBlocks g done) ≡ occ q (liveBlocks g b) + used fresh q 0 (length ps)
     unfolding done
-    counts-done q = omega (arith, spot-counts g fit b c₁ t shown-same f f-lt (rootAddress g b f) value commit-spot (contents g b f) (λ q. used fresh q 0 (length ps)) (λ q. 0) file-grown met-once q)
+    counts-done q = omega (arith, spot-counts on shown-same (rootAddress g b f) value commit-spot file-grown met-once q)
 
     pub growth-counts : (q : ℕ) → occ q (liveBlocks g (committed b (growthStep g fresh b f h))) ≡ occ q (liveBlocks g b) + used fresh q 0 (growthTo g fresh b f h .taken)
     unfolding step store committed done c₁ value growthTo plan
@@ -272,8 +278,7 @@ module _ (g : Layout) (fit : Fits g) (b : List ℕ) (t : T (accepted g b)) (f : 
     pub growth-supply : Supply g (committed b (growthStep g fresh b f h)) fresh (growthTo g fresh b f h .taken) lim
     unfolding step store committed done c₁ value growthTo plan
     growth-supply = record {
-      nonzero = supply .nonzero;
-      below = λ i l. rw (← (count-kept g b done len)) (supply .below i l);
+      between = rw (count-kept g b done len) at (supply .between);
       apart = supply .apart;
       spare = λ i u l. omega (arith, counts-done (fresh i), supply .spare i (omega arith) l, used-none fresh (fresh i) 0 (length ps) (λ j v w x. supply .apart j i (omega arith) l (sym x)));
     }

@@ -27,7 +27,7 @@ use Rattle.model.proofs.Epochs.{all-chosen}
 use Rattle.model.proofs.Trees.{childBlocks}
 use Rattle.model.proofs.Agree.{agree, agree-away, cell-away, occ-children, occ-child, agree-none}
 use Rattle.model.proofs.Shown.{Same, words-pos, file-live, leaf-of, same-shows, root-block}
-use Rattle.model.proofs.Accepting.{Ranged, Facts, facts}
+use Rattle.model.proofs.Accepting.{FileOn, Ranged, facts}
 use Rattle.model.proofs.Ranges.{file-range}
 use Rattle.model.proofs.Census.{FreeBlock, member-free}
 use Rattle.model.proofs.Visible.{Unseen, frame-same, unseen-same}
@@ -155,43 +155,47 @@ hidden-place g b s t =
           ]
     ]
 
-module _ (g : Layout) (fit : Fits g) (b : List ℕ) (ok : Facts g b) (s : Store) where
+free-same : (g : Layout) → Fits g → (b : List ℕ) (s : Store) → FreeBlock g b (s .at / g .words) → Unseen g b s
+free-same g fit b s e = frame-same g fit b (set b (s .at) (s .value)) (sym (length-set b (s .at) (s .value))) (λ k c j l.
+    sym (cell-away (g .words) (words-pos g fit) b (s .at) (s .value) k j l (λ same. elim c [
+      | inl top ↦ omega (arith, e .1, top, same)
+      | inr o ↦ omega (arith, o, e .2, ap (λ (x : ℕ). occ x (liveBlocks g b)) same)
+    ])))
+
+module _ {g : Layout} {b : List ℕ} {f : ℕ} (on : FileOn g b f) (s : Store) where
+  open FileOn on using (fit, board, file)
+
   pos : 0 < g .words
   pos = words-pos g fit
 
-  free-same : FreeBlock g b (s .at / g .words) → Unseen g b s
-  free-same e = frame-same g fit b (set b (s .at) (s .value)) (sym (length-set b (s .at) (s .value))) (λ k c j l.
-      sym (cell-away (g .words) pos b (s .at) (s .value) k j l (λ same. elim c [
-        | inl top ↦ omega (arith, e .1, top, same)
-        | inr o ↦ omega (arith, o, e .2, ap (λ (x : ℕ). occ x (liveBlocks g b)) same)
-      ])))
+  empty-root-same : s .at ≡ rootAddress g b f → size g b f ≡ 0 → Unseen g b s
+  unfolding sizeAddress
+  empty-root-same e z = spot-unseen on (s .at) (s .value) (inl (inl e)) (λ x. omega (arith, x, e)) (λ live. absurd (omega arith)) (agree-none (g .words) pos b (set b (s .at) (s .value)) _ _ (size g b f) z)
 
-  module _ (f : ℕ) (f-lt : f < files g) where
-    empty-root-same : s .at ≡ rootAddress g b f → size g b f ≡ 0 → Unseen g b s
+  module _ (t : T (hiddenUnder (g .words) b s (rootHeight g b f) (rootBlock g b f) (size g b f))) where
+    under-inside : 0 < occ (s .at / g .words) (fileBlocks g b f)
+    unfolding fileBlocks rootBlocks
+    under-inside = hidden-under-inside (g .words) pos b s (rootHeight g b f) (rootBlock g b f) (size g b f) t
+
+    tree-dark : agree (g .words) b (set b (s .at) (s .value)) (rootHeight g b f) (rootBlock g b f) (size g b f)
+    unfolding fileBlocks rootBlocks
+    tree-dark = hidden-under-dark (g .words) pos b s (rootHeight g b f) (rootBlock g b f) (size g b f) (λ x. omega (arith, facts g fit b board .once x, file-live g b f x file)) t
+
+    in-tree-same : Unseen g b s
     unfolding sizeAddress
-    empty-root-same e z = spot-unseen g fit b ok f f-lt (s .at) (s .value) (inl (inl e)) (λ x. omega (arith, x, e)) (λ live. absurd (omega arith)) (agree-none (g .words) pos b (set b (s .at) (s .value)) _ _ (size g b f) z)
-
-    module _ (t : T (hiddenUnder (g .words) b s (rootHeight g b f) (rootBlock g b f) (size g b f))) where
-      under-inside : 0 < occ (s .at / g .words) (fileBlocks g b f)
-      unfolding fileBlocks rootBlocks
-      under-inside = hidden-under-inside (g .words) pos b s (rootHeight g b f) (rootBlock g b f) (size g b f) t
-
-      tree-dark : agree (g .words) b (set b (s .at) (s .value)) (rootHeight g b f) (rootBlock g b f) (size g b f)
-      unfolding fileBlocks rootBlocks
-      tree-dark = hidden-under-dark (g .words) pos b s (rootHeight g b f) (rootBlock g b f) (size g b f) (λ x. omega (arith, ok .once x, file-live g b f x f-lt)) t
-
-      in-tree-same : Unseen g b s
-      unfolding sizeAddress
-      in-tree-same = spot-unseen g fit b ok f f-lt (s .at) (s .value) (inr under-inside) (λ x. tree-not-inode-of g fit b ok f f-lt (s .at) under-inside f 1 f-lt (omega arith) (sym x))
-          (λ live x. tree-not-inode-of g fit b ok f f-lt (s .at) under-inside f 0 f-lt (omega arith) (add-zero (rootAddress g b f) ∙ sym x)) tree-dark
+    in-tree-same = spot-unseen on (s .at) (s .value) (inr under-inside) (λ x. tree-not-inode-of on (s .at) under-inside f 1 file (omega arith) (sym x))
+        (λ live x. tree-not-inode-of on (s .at) under-inside f 0 file (omega arith) (add-zero (rootAddress g b f) ∙ sym x)) tree-dark
 
 module _ (g : Layout) (fit : Fits g) (b : List ℕ) (t : T (accepted g b)) where
+  on : {f : ℕ} → f < files g → FileOn g b f
+  on u = record { fit = fit; board = t; file = u }
+
   -- a hidden store alters nothing visible
   pub hidden-same : (s : Store) → T (hidden g b s) → Same g b (set b (s .at) (s .value))
   hidden-same s u = elim (hidden-place g b s u) [
-    | free-block e ↦ free-same g fit b (facts g fit b t) s e
-    | empty-root f h e z ↦ empty-root-same g fit b (facts g fit b t) s f h e z
-    | in-tree f h i ↦ in-tree-same g fit b (facts g fit b t) s f h i
+    | free-block e ↦ free-same g fit b s e
+    | empty-root f h e z ↦ empty-root-same (on h) s e z
+    | in-tree f h i ↦ in-tree-same (on h) s i
   ]
 
   -- and goes to a block of 1 to B − 2
@@ -199,7 +203,7 @@ module _ (g : Layout) (fit : Fits g) (b : List ℕ) (t : T (accepted g b)) where
   hidden-in-range s u = elim (hidden-place g b s u) [
     | free-block e ↦ (e .0, e .1)
     | empty-root f h e z ↦ rw (e, root-block g fit b f) (facts g fit b t .leaf-in (f / g .inodes) (leaf-of g fit f h))
-    | in-tree f h i ↦ file-range g fit b (facts g fit b t) f (s .at / g .words) h (under-inside g fit b (facts g fit b t) s f h i)
+    | in-tree f h i ↦ file-range g fit b (facts g fit b t) f (s .at / g .words) h (under-inside (on h) s i)
   ]
 
   hidden-unseen : (ss : List Store) → T (all (hidden g b) ss) → All (Unseen g b) ss

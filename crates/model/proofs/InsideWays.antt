@@ -7,13 +7,12 @@ use native.Mathlib.Omega.{arith}
 use native.Mathlib.Nat.{add-zero, mod-lt, mod-eq-of-lt, mul-add-mod-self-left}
 use lib.ListN.{length, getD, set, length-set}
 use lib.Seq.{getD-set-same, getD-set-other}
-use lib.Dec.{T}
 use borrow.Author.Tests.{lt-ltb}
 use Rattle.model.specs.Lists.{occ}
 use Rattle.model.specs.declared.WalkEnd.the-variants.{Block}
-use Rattle.model.specs.Layout.{Layout, Fits, files}
+use Rattle.model.specs.Layout.{Layout}
 use Rattle.model.specs.Tree.{span, cell, walk}
-use Rattle.model.specs.Board.{rootWalk, rootBlocks, blockCount, rootAddress, sizeAddress, root, size, walkTo, fileBlocks, liveBlocks, accepted}
+use Rattle.model.specs.Board.{rootWalk, rootBlocks, blockCount, rootAddress, sizeAddress, root, size, walkTo, fileBlocks, liveBlocks}
 use Rattle.model.specs.Store.{Store, store, performed}
 use Rattle.model.specs.Plan.{step}
 use Rattle.model.specs.Fresh.{stored}
@@ -21,29 +20,33 @@ use Rattle.model.specs.Change.{splicedWord, Shadow, descend}
 use Rattle.model.specs.GivenUp.{insideBlocks}
 use Rattle.model.proofs.Cases.{decide}
 use Rattle.model.proofs.Perform.{All, address-block}
-use Rattle.model.proofs.Splice.{Small, past-span}
+use Rattle.model.proofs.Splice.{past-span}
 use Rattle.model.proofs.Built.{used}
 use Rattle.model.proofs.Descent.{Replaced, walk-inside, word-changed, Committed, descend-inside, descend-low, descend-changed, word-in-block}
 use Rattle.model.proofs.Shown.{Same, words-pos, leaf-of, file-live, same-address, root-block}
-use Rattle.model.proofs.Accepting.{Facts, facts, address-on-board}
+use Rattle.model.proofs.Accepting.{FileOn, Facts, facts, address-on-board}
 use Rattle.model.proofs.Visible.{same-refl}
 use Rattle.model.proofs.Commits.{FileCommit, Written, spliced, written-commit}
 use Rattle.model.proofs.Apart.{Spot, spot-ranged, spot-live, spot-root, spot-size, stored-root, leaf-not-file, tree-not-inode-of}
-use Rattle.model.proofs.Committing.{facts-same, spot-same, spot-commit, spot-counts}
+use Rattle.model.proofs.Committing.{on-same, spot-same, spot-commit, spot-counts}
 use Rattle.model.proofs.Supplied.{Supply, supply-once, stored-keeps}
 use Rattle.model.proofs.Steps.{committed}
+use Rattle.model.proofs.Writing.{Writing}
 use Rattle.model.proofs.GoodSteps.{GoodTurn, pages-hidden, pages-once, pages-same, pages-held}
 
-module _ (g : Layout) (fit : Fits g) (b : List ℕ) (t : T (accepted g b)) (f : ℕ) (f-lt : f < files g) (o : ℕ) (new : List ℕ) (some : 0 < length new) (small : Small new)
+module _ {g : Layout} {b : List ℕ} {f o : ℕ} {new : List ℕ} (w : Writing g b f o new) (some : 0 < length new)
     (within : o + length new ≤ size g b f) (under : o + length new ≤ span (g .words) (root g b f % g .words)) where
+  open Writing w using (on)
+  open FileOn on using (fit, board, file)
+
   ok : Facts g b
-  ok = facts g fit b t
+  ok = facts g fit b board
 
   pos : 0 < g .words
   pos = words-pos g fit
 
   tree-once : (q : ℕ) → occ q (fileBlocks g b f) ≤ 1
-  tree-once q = omega (arith, ok .once q, file-live g b f q f-lt)
+  tree-once q = omega (arith, ok .once q, file-live g b f q file)
 
   -- ---- Single word
 
@@ -71,40 +74,40 @@ module _ (g : Layout) (fit : Fits g) (b : List ℕ) (t : T (accepted g b)) (f : 
     same : Same g b b
     same = same-refl g fit b
 
-    spot : Spot g fit b (facts-same g fit b b t same) f f-lt a
+    spot : Spot g b f a
     spot = inr in-tree
 
     root-stays : root g b f ≡ root g b₂ f
-    root-stays = spot-root g fit b ok f f-lt a v spot f f-lt (λ x. tree-not-inode-of g fit b ok f f-lt a in-tree f 0 f-lt (omega arith) (add-zero (rootAddress g b f) ∙ x))
+    root-stays = spot-root on a v spot f file (λ x. tree-not-inode-of on a in-tree f 0 file (omega arith) (add-zero (rootAddress g b f) ∙ x))
 
     size-stays : size g b f ≡ size g b₂ f
     unfolding sizeAddress
-    size-stays = spot-size g fit b ok f f-lt a v spot f f-lt (tree-not-inode-of g fit b ok f f-lt a in-tree f 1 f-lt (omega arith))
+    size-stays = spot-size on a v spot f file (tree-not-inode-of on a in-tree f 1 file (omega arith))
 
     on-board : a < length b
-    on-board = address-on-board g fit b (ok .sizes) a (omega (arith, spot-ranged g fit b ok f f-lt a spot .1))
+    on-board = address-on-board g fit b (ok .sizes) a (omega (arith, spot-ranged on a spot .1))
 
     replaced : Replaced (g .words) b b₂ a (root g b f % g .words) (root g b f / g .words) (size g b f)
     unfolding fileBlocks rootBlocks cell
     replaced = record { once = tree-once; same = λ q l i u d. sym (getD-set-other b a (g .words * q + i) v 0 d) }
 
-    written : Written g fit b b₂ (sym (length-set b a v)) f (root g b f % g .words) (root g b f / g .words) o (size g b f) new (λ q. 0) (λ q. 0)
+    written : Written g b b₂ f (root g b f % g .words) (root g b f / g .words) o (size g b f) new (λ q. 0) (λ q. 0)
     written = record {
       old = λ live. (refl, refl);
       height = ap (λ (x : ℕ). x % g .words) (sym root-stays);
       now = sym size-stays;
-      low = ok .low f f-lt (omega arith);
-      most = ok .most f f-lt;
+      low = ok .low f file (omega arith);
+      most = ok .most f file;
       past = past-span o new (span (g .words) (root g b f % g .words)) (size g b f) under;
       change = rw (← root-stays)
-          (word-changed (g .words) pos b b₂ new small (blockCount g b - 1) (root g b f % g .words) (root g b f / g .words) (size g b f) o K walked (omega arith) word replaced (getD-set-same b a v 0 on-board));
+          (word-changed (g .words) pos b b₂ new (w .small) (blockCount g b - 1) (root g b f % g .words) (root g b f / g .words) (size g b f) o K walked (omega arith) word replaced (getD-set-same b a v 0 on-board));
     }
 
     pub single-live : 0 < occ (a / g .words) (liveBlocks g b)
-    single-live = spot-live g fit b ok f f-lt a spot
+    single-live = spot-live on a spot
 
     single-file : FileCommit g b b₂ f (spliced g b f o new (size g b f)) (λ q. 0) (λ q. 0)
-    single-file = written-commit g fit b b₂ (sym (length-set b a v)) f (root g b f % g .words) (root g b f / g .words) o (size g b f) new (λ q. 0) (λ q. 0) written (ok .tree f f-lt)
+    single-file = written-commit fit (sym (length-set b a v)) written (ok .tree f file)
 
     pub single-good : GoodTurn g b f (step [] a v) (spliced g b f o new (size g b f)) (λ q. 0) (λ q. 0)
     unfolding step store committed performed All occ
@@ -112,15 +115,15 @@ module _ (g : Layout) (fit : Fits g) (b : List ℕ) (t : T (accepted g b)) (f : 
       good = record {
         hides = tt;
         once = λ x. omega arith;
-        within = spot-ranged g fit b ok f f-lt a spot;
-        outcome = spot-commit g fit b b t same f f-lt a v spot (spliced g b f o new (size g b f)) (λ q. 0) (λ q. 0) single-file (λ q. omega (arith, ok .once q));
+        within = spot-ranged on a spot;
+        outcome = spot-commit on same a v spot single-file (λ q. omega (arith, ok .once q));
       };
-      lives = spot-counts g fit b b t same f f-lt a v spot (spliced g b f o new (size g b f)) (λ q. 0) (λ q. 0) single-file (λ q. omega (arith, ok .once q));
+      lives = spot-counts on same a v spot single-file (λ q. omega (arith, ok .once q));
     }
 
   -- ---- Shadow inside the file
 
-  module _ (fresh : ℕ → ℕ) (c lim : ℕ) (supply : Supply g b fresh c lim) where
+  module _ {fresh : ℕ → ℕ} {c lim : ℕ} (supply : Supply g b fresh c lim) where
     abbrev sh : Shadow
     sh = descend (g .words) fresh b (root g b f % g .words) (root g b f / g .words) (size g b f) o new c (rootAddress g b f)
 
@@ -139,7 +142,11 @@ module _ (g : Layout) (fit : Fits g) (b : List ℕ) (t : T (accepted g b)) (f : 
 
       shown-same : Same g b c₁
       unfolding c₁
-      shown-same = pages-same g fit b t fresh c lim supply (sh .pages) room
+      shown-same = pages-same fit board supply (sh .pages) room
+
+      -- the file there
+      on₁ : FileOn g c₁ f
+      on₁ = on-same on shown-same
 
       value : ℕ
       value = g .words * top + low
@@ -152,14 +159,17 @@ module _ (g : Layout) (fit : Fits g) (b : List ℕ) (t : T (accepted g b)) (f : 
       unfolding fileBlocks rootBlocks
       place = descend-inside (g .words) pos fresh b new c (root g b f % g .words) (root g b f / g .words) (size g b f) o (rootAddress g b f) (omega arith) (omega arith)
 
-      lent-spot : Spot g fit b ok f f-lt (sh .at)
+      lent-spot : Spot g b f (sh .at)
       lent-spot = elim place [ inl e ↦ inl (inl e) | inr z ↦ inr z ]
 
       pub inside-live : 0 < occ (sh .at / g .words) (liveBlocks g b)
-      inside-live = spot-live g fit b ok f f-lt (sh .at) lent-spot
+      inside-live = spot-live on (sh .at) lent-spot
 
-      commit-spot : Spot g fit c₁ (facts-same g fit b c₁ t shown-same) f f-lt (sh .at)
-      commit-spot = spot-same g fit b c₁ t shown-same f f-lt (sh .at) lent-spot
+      commit-spot : Spot g c₁ f (sh .at)
+      commit-spot = spot-same on shown-same (sh .at) lent-spot
+
+      address-same : rootAddress g b f ≡ rootAddress g c₁ f
+      address-same = same-address g fit b c₁ shown-same f (leaf-of g fit f file)
 
       committed-block : value / g .words ≡ top
       unfolding value
@@ -171,20 +181,19 @@ module _ (g : Layout) (fit : Fits g) (b : List ℕ) (t : T (accepted g b)) (f : 
 
       commits : getD done (sh .at) 0 ≡ value
       unfolding done
-      commits = getD-set-same c₁ (sh .at) value 0 (rw (← (shown-same .lengths)) (address-on-board g fit b (ok .sizes) (sh .at) (omega (arith, spot-ranged g fit b ok f f-lt (sh .at) lent-spot .1))))
+      commits = getD-set-same c₁ (sh .at) value 0 (rw (← (shown-same .lengths)) (address-on-board g fit b (ok .sizes) (sh .at) (omega (arith, spot-ranged on (sh .at) lent-spot .1))))
 
       words-stay : (q : ℕ) → 0 < occ q (fileBlocks g b f) → (j : ℕ) → j < g .words → g .words * q + j ≢ sh .at → cell (g .words) b q j ≡ cell (g .words) done q j
       unfolding done c₁ cell
-      words-stay q live j l d = stored-keeps g b fresh c lim supply (sh .pages) room q (omega (arith, file-live g b f q f-lt)) j l ∙ sym (getD-set-other c₁ (sh .at) (g .words * q + j) value 0 d)
+      words-stay q live j l d = stored-keeps supply (sh .pages) room q (omega (arith, file-live g b f q file)) j l ∙ sym (getD-set-other c₁ (sh .at) (g .words * q + j) value 0 d)
 
       root-hit : sh .at ≡ rootAddress g b f → root g done f ≡ value
       unfolding done
-      root-hit e = stored-root g fit c₁ (facts-same g fit b c₁ t shown-same) f f-lt (sh .at) value commit-spot (e ∙ same-address g fit b c₁ shown-same f (leaf-of g fit f f-lt))
+      root-hit e = stored-root on₁ (sh .at) value commit-spot (e ∙ address-same)
 
       root-else : sh .at ≢ rootAddress g b f → root g b f ≡ root g done f
       unfolding done
-      root-else d = shown-same .roots f f-lt (omega arith)
-          ∙ spot-root g fit c₁ (facts-same g fit b c₁ t shown-same) f f-lt (sh .at) value commit-spot f f-lt (λ e. d (sym e ∙ sym (same-address g fit b c₁ shown-same f (leaf-of g fit f f-lt))))
+      root-else d = shown-same .roots f file (omega arith) ∙ spot-root on₁ (sh .at) value commit-spot f file (λ e. d (sym e ∙ sym address-same))
 
       len : length b ≡ length done
       unfolding done
@@ -194,13 +203,12 @@ module _ (g : Layout) (fit : Fits g) (b : List ℕ) (t : T (accepted g b)) (f : 
       unfolding sizeAddress
       not-size x = elim place [
         | inl e ↦ omega (arith, x, e)
-        | inr z ↦ tree-not-inode-of g fit b ok f f-lt (sh .at) z f 1 f-lt (omega arith) x
+        | inr z ↦ tree-not-inode-of on (sh .at) z f 1 file (omega arith) x
       ]
 
       size-kept : size g b f ≡ size g done f
       unfolding done sizeAddress
-      size-kept = shown-same .sizes f f-lt ∙ spot-size g fit c₁ (facts-same g fit b c₁ t shown-same) f f-lt (sh .at) value commit-spot f f-lt
-          (λ x. not-size (ap (λ (y : ℕ). y + 1) (same-address g fit b c₁ shown-same f (leaf-of g fit f f-lt)) ∙ x))
+      size-kept = shown-same .sizes f file ∙ spot-size on₁ (sh .at) value commit-spot f file (λ x. not-size (ap (λ (y : ℕ). y + 1) address-same ∙ x))
 
       root-low : root g done f % g .words ≡ root g b f % g .words
       unfolding root
@@ -210,7 +218,7 @@ module _ (g : Layout) (fit : Fits g) (b : List ℕ) (t : T (accepted g b)) (f : 
       ]
 
       low-zero : sh .at ≢ rootAddress g b f → low ≡ 0
-      low-zero d = elim (descend-low (g .words) pos fresh b new c (blockCount g b - 1) (root g b f % g .words) (root g b f / g .words) (size g b f) o (rootAddress g b f) (omega arith) (omega arith) (ok .tree f f-lt)) [
+      low-zero d = elim (descend-low (g .words) pos fresh b new c (blockCount g b - 1) (root g b f % g .words) (root g b f / g .words) (size g b f) o (rootAddress g b f) (omega arith) (omega arith) (ok .tree f file)) [
         | inl e ↦ absurd (d e)
         | inr z ↦ z
       ]
@@ -221,8 +229,8 @@ module _ (g : Layout) (fit : Fits g) (b : List ℕ) (t : T (accepted g b)) (f : 
         replaced = record { once = tree-once; same = words-stay };
         within = omega arith;
         under = omega arith;
-        outside = rw (root-block g fit b f) (leaf-not-file g b (ok .once) (f / g .inodes) f (leaf-of g fit f f-lt) f-lt);
-        holds = pages-held g fit b t fresh c lim supply (sh .pages) room (sh .at) value inside-live;
+        outside = rw (root-block g fit b f) (leaf-not-file g b (ok .once) (f / g .inodes) f (leaf-of g fit f file) file);
+        holds = pages-held fit board supply (sh .pages) room (sh .at) value inside-live;
         room = room;
         value = ap (λ (x : ℕ). x / g .words) commits ∙ committed-block;
         low = λ d. ap (λ (x : ℕ). x % g .words) commits ∙ committed-low ∙ low-zero d;
@@ -232,33 +240,32 @@ module _ (g : Layout) (fit : Fits g) (b : List ℕ) (t : T (accepted g b)) (f : 
       abbrev given : List ℕ
       given = insideBlocks (g .words) b (root g b f % g .words) (root g b f / g .words) (size g b f) o (length new)
 
-      inside-written : Written g fit b done len f (root g b f % g .words) (root g b f / g .words) o (size g b f) new (λ q. used fresh q c (length (sh .pages))) (λ q. occ q given)
+      inside-written : Written g b done f (root g b f % g .words) (root g b f / g .words) o (size g b f) new (λ q. used fresh q c (length (sh .pages))) (λ q. occ q given)
       inside-written = record {
         old = λ live. (refl, refl);
         height = root-low;
         now = sym size-kept;
-        low = ok .low f f-lt (omega arith);
-        most = ok .most f f-lt;
+        low = ok .low f file (omega arith);
+        most = ok .most f file;
         past = past-span o new (span (g .words) (root g b f % g .words)) (size g b f) under;
-        change = descend-changed (g .words) pos fresh b done new some small c lim (supply .nonzero) (blockCount g b - 1) (supply .below)
+        change = descend-changed (g .words) pos b done new some (w .small) (supply .between) c
             (root g b f % g .words) (root g b f / g .words) (size g b f) o (rootAddress g b f) ready (root g done f / g .words)
-            (λ e. ap (λ (x : ℕ). x / g .words) (root-hit e ∙ sym commits ∙ ap (λ (x : ℕ). getD done x 0) e))
-            (λ d. ap (λ (x : ℕ). x / g .words) (sym (root-else d)));
+            (λ e. ap (λ (x : ℕ). x / g .words) (root-hit e ∙ sym commits ∙ ap (λ (x : ℕ). getD done x 0) e)) (λ d. ap (λ (x : ℕ). x / g .words) (sym (root-else d)));
       }
 
       inside-file : FileCommit g b done f (spliced g b f o new (size g b f)) (λ q. used fresh q c (length (sh .pages))) (λ q. occ q given)
-      inside-file = written-commit g fit b done len f (root g b f % g .words) (root g b f / g .words) o (size g b f) new (λ q. used fresh q c (length (sh .pages))) (λ q. occ q given) inside-written (ok .tree f f-lt)
+      inside-file = written-commit fit len inside-written (ok .tree f file)
 
       pub inside-good : GoodTurn g b f (step ss (sh .at) (g .words * top + low)) (spliced g b f o new (size g b f)) (λ q. used fresh q c (length (sh .pages))) (λ q. occ q given)
       unfolding step store committed done c₁ value
       inside-good =
-          let once : (q : ℕ) → occ q (liveBlocks g b) + used fresh q c (length (sh .pages)) ≤ 1 = supply-once g b fresh c lim supply (ok .once) (length (sh .pages)) room in
+          let once : (q : ℕ) → occ q (liveBlocks g b) + used fresh q c (length (sh .pages)) ≤ 1 = supply-once supply (ok .once) (length (sh .pages)) room in
           record {
             good = record {
-              hides = pages-hidden g fit b t fresh c lim supply (sh .pages) room;
-              once = pages-once g fit b t fresh c lim supply (sh .pages) room;
-              within = spot-ranged g fit b ok f f-lt (sh .at) lent-spot;
-              outcome = spot-commit g fit b c₁ t shown-same f f-lt (sh .at) value commit-spot (spliced g b f o new (size g b f)) (λ q. used fresh q c (length (sh .pages))) (λ q. occ q given) inside-file once;
+              hides = pages-hidden fit board supply (sh .pages) room;
+              once = pages-once fit board supply (sh .pages) room;
+              within = spot-ranged on (sh .at) lent-spot;
+              outcome = spot-commit on shown-same (sh .at) value commit-spot inside-file once;
             };
-            lives = spot-counts g fit b c₁ t shown-same f f-lt (sh .at) value commit-spot (spliced g b f o new (size g b f)) (λ q. used fresh q c (length (sh .pages))) (λ q. occ q given) inside-file once;
+            lives = spot-counts on shown-same (sh .at) value commit-spot inside-file once;
           }

@@ -12,7 +12,7 @@ use borrow.Author.Tests.{eq-eqb, ne-eqb}
 use Rattle.model.specs.Lists.{one, occ}
 use Rattle.model.specs.Layout.{Layout, Fits, files}
 use Rattle.model.specs.Tree.{span, cell}
-use Rattle.model.specs.Board.{rootBlocks, greatest, blockCount, trailer, inodeBlock, inodePointer, leaf, rootAddress, sizeAddress, root, size, fileBlocks, liveBlocks, inRange, leafSound, accepted}
+use Rattle.model.specs.Board.{rootBlocks, blockCount, trailer, inodeBlock, inodePointer, leaf, rootAddress, sizeAddress, root, size, fileBlocks, liveBlocks, inRange, leafSound}
 use Rattle.model.specs.Store.{Store, store, performed}
 use Rattle.model.specs.Plan.{Step, step}
 use Rattle.model.specs.Fresh.{Page, freshNeed, stored, build}
@@ -20,19 +20,20 @@ use Rattle.model.specs.Change.{replaced, copiedLeaf, leafPage}
 use Rattle.model.proofs.Cases.{decide, and-both}
 use Rattle.model.proofs.Perform.{All, address-block, address-place}
 use Rattle.model.proofs.Agree.{agree, frame, cell-away}
-use Rattle.model.proofs.Splice.{Small, Reach, past-span}
+use Rattle.model.proofs.Splice.{Reach, past-span}
 use Rattle.model.specs.GivenUp.{pathBlocks}
 use Rattle.model.proofs.Paths.{touched-new}
 use Rattle.model.proofs.Changed.{Changed}
 use Rattle.model.proofs.Built.{held, used, used-add, used-one, length-build, held-left, held-right, build-changed}
 use Rattle.model.proofs.Shown.{Same, words-pos, count-kept, inode-kept, trailer-kept, leaf-kept, leaf-sound-kept, inode-live, leaf-live, file-live, leaf-of, slot, root-block}
-use Rattle.model.proofs.Accepting.{Ranged, in-range, accepted-parts, Facts, facts, address-on-board}
+use Rattle.model.proofs.Accepting.{FileOn, Ranged, in-range, accepted-parts, Facts, facts, address-on-board}
 use Rattle.model.proofs.Commits.{Written, spliced, written-commit, Others, one-file, OneFile, one-file-counts}
 use Rattle.model.proofs.Apart.{inode-not-leaf, file-not-inode, inodes-apart}
 use Rattle.model.proofs.Supplied.{Supply, supply-once, stored-keeps}
 use Rattle.model.proofs.Steps.{committed}
 use Rattle.model.proofs.GoodSteps.{GoodTurn, pages-hidden, pages-once, pages-same, pages-held}
 use Rattle.model.proofs.Taking.{Takes}
+use Rattle.model.proofs.Writing.{Writing}
 
 -- ---- The step
 
@@ -53,15 +54,15 @@ module _ (g : Layout) (fresh : ℕ → ℕ) (b : List ℕ) (f o : ℕ) (new : Li
   abbrev pub leafStep : Step
   leafStep = step (stored (g .words) fresh shadowPages c) (g .words * inodeBlock g b + f / g .inodes) (g .words * fresh (c + length treePages))
 
-  pub leaf-takes : Fits g → f < files g → Takes g b fresh c (c + length treePages + 1) leafStep
+  pub leaf-takes : FileOn g b f → Takes g b fresh c (c + length treePages + 1) leafStep
   unfolding step store All
-  leaf-takes fit f-lt = record {
+  leaf-takes on = record {
     pages = shadowPages;
     others = [];
     is = sym (append-nil (stored (g .words) fresh shadowPages c));
     count = omega (arith, length-append treePages (leafPage (g .words) b (rootAddress g b f) newRoot (max (size g b f) (o + length new)) ∷ []));
     others-live = tt;
-    commit-live = rw (address-block (g .words) (inodeBlock g b) (f / g .inodes) (omega (arith, leaf-of g fit f f-lt, fit .leaves-fit))) (inode-live g b);
+    commit-live = rw (address-block (g .words) (inodeBlock g b) (f / g .inodes) (omega (arith, leaf-of g (on .fit) f (on .file), on .fit .leaves-fit))) (inode-live g b);
   }
 
 -- ---- The copy of the leaf
@@ -97,11 +98,12 @@ size-word g b f = ap (λ (x : ℕ). getD b x 0) (add-assoc (g .words * leaf g b 
 
 -- ---- The step is good
 
-module _ (g : Layout) (fit : Fits g) (b : List ℕ) (t : T (accepted g b)) (f : ℕ) (f-lt : f < files g) (o : ℕ) (new : List ℕ) (some : 0 < length new) (small : Small new)
-    (live : 0 < size g b f) (beyond : size g b f < o + length new) (under : o + length new ≤ span (g .words) (root g b f % g .words))
-    (most : o + length new ≤ greatest g) (fresh : ℕ → ℕ) (c lim : ℕ) (supply : Supply g b fresh c lim) (room : c + length (treePages g fresh b f o new c) + 1 ≤ lim) where
+module _ {g : Layout} {b : List ℕ} {f o : ℕ} {new : List ℕ} (w : Writing g b f o new) (some : 0 < length new) (live : 0 < size g b f) (beyond : size g b f < o + length new)
+    (under : o + length new ≤ span (g .words) (root g b f % g .words)) {fresh : ℕ → ℕ} {c lim : ℕ} (supply : Supply g b fresh c lim) (room : c + length (treePages g fresh b f o new c) + 1 ≤ lim) where
+  open FileOn (w .on) using (fit, board, file)
+
   ok : Facts g b
-  ok = facts g fit b t
+  ok = facts g fit b board
 
   pos : 0 < g .words
   pos = words-pos g fit
@@ -136,7 +138,7 @@ module _ (g : Layout) (fit : Fits g) (b : List ℕ) (t : T (accepted g b)) (f : 
   ss = stored (g .words) fresh pages c
 
   l₀-lt : l₀ < g .leaves
-  l₀-lt = leaf-of g fit f f-lt
+  l₀-lt = leaf-of g fit f file
 
   pages-room : c + length pages ≤ lim
   pages-room = omega (arith, length-append ps (copy ∷ []))
@@ -150,7 +152,7 @@ module _ (g : Layout) (fit : Fits g) (b : List ℕ) (t : T (accepted g b)) (f : 
 
   shown-same : Same g b c₁
   unfolding c₁
-  shown-same = pages-same g fit b t fresh c lim supply pages pages-room
+  shown-same = pages-same fit board supply pages pages-room
 
   len : length b ≡ length b₂
   unfolding b₂
@@ -162,7 +164,7 @@ module _ (g : Layout) (fit : Fits g) (b : List ℕ) (t : T (accepted g b)) (f : 
   -- live blocks other than the inode pointer block stay
   live-stays : (q : ℕ) → 0 < occ q (liveBlocks g b) → q ≢ inodeBlock g b → (j : ℕ) → j < g .words → cell (g .words) b q j ≡ cell (g .words) b₂ q j
   unfolding b₂ c₁
-  live-stays q z d j l = stored-keeps g b fresh c lim supply pages pages-room q z j l ∙ sym (cell-away (g .words) pos c₁ a (g .words * copied) q j l (λ x. d (x ∙ commit-block)))
+  live-stays q z d j l = stored-keeps supply pages pages-room q z j l ∙ sym (cell-away (g .words) pos c₁ a (g .words * copied) q j l (λ x. d (x ∙ commit-block)))
 
   tree-stays : (i : ℕ) → i < files g → agree (g .words) b b₂ (root g b i % g .words) (root g b i / g .words) (size g b i)
   unfolding fileBlocks rootBlocks
@@ -182,8 +184,7 @@ module _ (g : Layout) (fit : Fits g) (b : List ℕ) (t : T (accepted g b)) (f : 
   -- the inode pointers
   pointer-stays : (l : ℕ) → l < g .leaves → l ≢ l₀ → inodePointer g b l ≡ inodePointer g b₂ l
   unfolding inodePointer cell b₂ c₁
-  pointer-stays l u d =
-      stored-keeps g b fresh c lim supply pages pages-room (inodeBlock g b) (inode-live g b) l (omega (arith, fit .leaves-fit))
+  pointer-stays l u d = stored-keeps supply pages pages-room (inodeBlock g b) (inode-live g b) l (omega (arith, fit .leaves-fit))
       ∙ sym (getD-set-other c₁ a (g .words * inodeBlock g b + l) (g .words * copied) 0 (λ x. d (omega arith)))
       ∙ ap (λ (x : ℕ). getD b₂ (g .words * x + l) 0) inode
 
@@ -200,7 +201,7 @@ module _ (g : Layout) (fit : Fits g) (b : List ℕ) (t : T (accepted g b)) (f : 
   leaf-stays l u d = leaf-kept g b b₂ len l (pointer-stays l u d)
 
   copied-in : Ranged g b₂ copied
-  copied-in = rw (← (count-kept g b b₂ len)) (supply .nonzero (c + length ps) (omega arith), supply .below (c + length ps) (omega arith))
+  copied-in = rw (← (count-kept g b b₂ len)) (supply .between .nonzero (c + length ps) (omega arith), supply .between .below (c + length ps) (omega arith))
 
   leaf-new-sound : T (leafSound g b₂ l₀)
   unfolding leafSound
@@ -210,13 +211,13 @@ module _ (g : Layout) (fit : Fits g) (b : List ℕ) (t : T (accepted g b)) (f : 
   leaves-sound : (l : ℕ) → l < g .leaves → T (leafSound g b₂ l)
   leaves-sound l u = elim (decide l l₀) [
     | inl e ↦ rw e leaf-new-sound
-    | inr d ↦ rw (← (leaf-sound-kept g b b₂ len l (pointer-stays l u d))) (accepted-parts g b t .leaves l u)
+    | inr d ↦ rw (← (leaf-sound-kept g b b₂ len l (pointer-stays l u d))) (accepted-parts g b board .leaves l u)
   ]
 
   -- the fresh blocks
   all-held : held (g .words) fresh b₂ pages c
   unfolding b₂ c₁
-  all-held = pages-held g fit b t fresh c lim supply pages pages-room a (g .words * copied) (rw commit-block (inode-live g b))
+  all-held = pages-held fit board supply pages pages-room a (g .words * copied) (rw commit-block (inode-live g b))
 
   tree-held : held (g .words) fresh b₂ ps c
   tree-held = held-left (g .words) pos b fresh b₂ ps (copy ∷ []) c all-held
@@ -235,7 +236,7 @@ module _ (g : Layout) (fit : Fits g) (b : List ℕ) (t : T (accepted g b)) (f : 
   -- two files of one leaf have different words there
   slots-apart : (i d e : ℕ) → i < files g → i ≢ f → i / g .inodes ≡ l₀ → d ≤ 1 → e ≤ 1 → 2 * (i % g .inodes) + d ≢ 2 * (f % g .inodes) + e
   unfolding rootAddress
-  slots-apart i d e u ne same v w x = inodes-apart g fit b ok i f d e u f-lt ne v w (omega (arith, ap (λ (y : ℕ). g .words * leaf g b y) same))
+  slots-apart i d e u ne same v w x = inodes-apart g fit b ok i f d e u file ne v w (omega (arith, ap (λ (y : ℕ). g .words * leaf g b y) same))
 
   inode-stays : (i : ℕ) → i < files g → i ≢ f → (d : ℕ) → d ≤ 1
       → cell (g .words) b (leaf g b (i / g .inodes)) (2 * (i % g .inodes) + d) ≡ cell (g .words) b₂ (leaf g b₂ (i / g .inodes)) (2 * (i % g .inodes) + d)
@@ -273,15 +274,15 @@ module _ (g : Layout) (fit : Fits g) (b : List ℕ) (t : T (accepted g b)) (f : 
       let count : freshNeed (g .words) b (root g b f % g .words) (root g b f / g .words) (size g b f) o (length new) ≡ length ps = sym (length-build (g .words) pos b fresh (root g b f % g .words) (root g b f / g .words) (size g b f) o new c) in
       rw block-new (subst
       (λ (x : ℕ). Changed (g .words) b b₂ (blockCount g b - 1) (root g b f % g .words) (root g b f / g .words) (fresh (c + x - 1)) (size g b f) m o new (λ q. used fresh q c x) (λ q. occ q path)) count
-      (build-changed (g .words) pos b fresh b₂ lim (supply .nonzero) (blockCount g b - 1) (supply .below) (root g b f % g .words) (root g b f / g .words) (size g b f) o new c m
-      (touched-new (g .words) (root g b f % g .words) (root g b f / g .words) (size g b f) o (length new) some) (omega (arith, count)) small tree-held (tree-stays f f-lt) (omega arith) (omega arith) (λ u. omega arith) reach))
+      (build-changed (g .words) pos b fresh b₂ (supply .between) (root g b f % g .words) (root g b f / g .words) (size g b f) o new c m
+      (touched-new (g .words) (root g b f % g .words) (root g b f / g .words) (size g b f) o (length new) some) (omega (arith, count)) (w .small) tree-held (tree-stays f file) (omega arith) (omega arith) (λ u. omega arith) reach))
 
-  written : Written g fit b b₂ len f (root g b f % g .words) (root g b f / g .words) o m new (λ q. used fresh q c (length ps)) (λ q. occ q path)
+  written : Written g b b₂ f (root g b f % g .words) (root g b f / g .words) o m new (λ q. used fresh q c (length ps)) (λ q. occ q path)
   written = record {
     old = λ z. (refl, refl);
     height = height-new;
     now = size-new;
-    low = ok .low f f-lt live;
+    low = ok .low f file live;
     most = omega arith;
     past = past-span o new (span (g .words) (root g b f % g .words)) m under;
     change = changed;
@@ -290,21 +291,21 @@ module _ (g : Layout) (fit : Fits g) (b : List ℕ) (t : T (accepted g b)) (f : 
   moved : OneFile g b b₂ f (spliced g b f o new m) (λ q. one q copied) (λ q. one q (leaf g b l₀)) (λ q. used fresh q c (length ps)) (λ q. occ q path)
   moved = record {
     lengths = len;
-    trailers = rw (← (trailer-kept g b b₂ len fit trailers)) (accepted-parts g b t .trailers);
+    trailers = rw (← (trailer-kept g b b₂ len fit trailers)) (accepted-parts g b board .trailers);
     inode = inode;
     leaves = leaves-sound;
     leaves-stay = leaf-stays;
     leaf-moved = λ q. omega (arith, ap (one q) leaf-new);
     others = others;
-    file = written-commit g fit b b₂ len f (root g b f % g .words) (root g b f / g .words) o m new (λ q. used fresh q c (length ps)) (λ q. occ q path) written (ok .tree f f-lt);
-    spare = λ q. omega (arith, supply-once g b fresh c lim supply (ok .once) (length ps + 1) (omega arith) q, used-add fresh q c (length ps) 1, used-one fresh q (c + length ps));
+    file = written-commit fit len written (ok .tree f file);
+    spare = λ q. omega (arith, supply-once supply (ok .once) (length ps + 1) (omega arith) q, used-add fresh q c (length ps) 1, used-one fresh q (c + length ps));
   }
 
   leaf-lives : (q : ℕ) → occ q (liveBlocks g b₂) + occ q (leaf g b l₀ ∷ path) ≡ occ q (liveBlocks g b) + used fresh q c (length ps + 1)
   unfolding occ
   leaf-lives q = omega (
     arith,
-    one-file-counts g fit b b₂ f (spliced g b f o new m) (λ q. one q copied) (λ q. one q (leaf g b l₀)) (λ q. used fresh q c (length ps)) (λ q. occ q path) moved t f-lt q,
+    one-file-counts (w .on) moved q,
     used-add fresh q c (length ps) 1,
     used-one fresh q (c + length ps),
   )
@@ -314,10 +315,10 @@ module _ (g : Layout) (fit : Fits g) (b : List ℕ) (t : T (accepted g b)) (f : 
   unfolding step store committed b₂ c₁
   leaf-good = record {
     good = record {
-      hides = pages-hidden g fit b t fresh c lim supply pages pages-room;
-      once = pages-once g fit b t fresh c lim supply pages pages-room;
+      hides = pages-hidden fit board supply pages pages-room;
+      once = pages-once fit board supply pages pages-room;
       within = rw commit-block (ok .inode);
-      outcome = one-file g fit b b₂ f (spliced g b f o new m) (λ q. one q copied) (λ q. one q (leaf g b l₀)) (λ q. used fresh q c (length ps)) (λ q. occ q path) moved t;
+      outcome = one-file (w .on) moved;
     };
     lives = leaf-lives;
   }

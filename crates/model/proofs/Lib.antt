@@ -39,11 +39,12 @@ pub mod Apart
 pub mod HiddenStores
 pub mod Committing
 pub mod Supplied
--- Plans: safe plans obey the power-cut rule; every way of planning is one good step, or growth and another
+-- Plans: safe plans obey the power-cut rule; what is asked of a write; every way of planning is one good step, or growth and another
 pub mod Safety
 pub mod Steps
 pub mod GoodSteps
 pub mod Taking
+pub mod Writing
 pub mod InsideWays
 pub mod SizeWays
 pub mod LeafWay

@@ -10,9 +10,9 @@ use lib.Dec.{T, eqb}
 use borrow.Author.Tests.{lt-ltb, le-ltb, lt-leb, eq-eqb, ne-eqb}
 use Rattle.model.specs.declared.WalkEnd.the-variants.{Hole}
 use Rattle.model.specs.Lists.{member}
-use Rattle.model.specs.Layout.{Layout, Fits, files}
+use Rattle.model.specs.Layout.{Layout}
 use Rattle.model.specs.Tree.{live, span, least}
-use Rattle.model.specs.Board.{rootWalk, greatest, root, size, sizeAddress, inodeOf, walkTo, contents, free, accepted}
+use Rattle.model.specs.Board.{blockCount, rootWalk, root, size, sizeAddress, inodeOf, walkTo, contents, free}
 use Rattle.model.specs.Store.{performed, stores, fenced}
 use Rattle.model.specs.Plan.{Plan, plan, planEpochs, afterwards, pairs}
 use Rattle.model.specs.Fresh.{freshNeed, need, build}
@@ -24,17 +24,17 @@ use Rattle.model.specs.Claims.{PastEnd, PastEndRule}
 use Rattle.model.proofs.Cases.{split, or-left, or-right}
 use Rattle.model.proofs.Epochs.{planned-either}
 use Rattle.model.proofs.Trees.{live-some, walk-dead}
-use Rattle.model.proofs.Splice.{Small, bytes-small}
 use Rattle.model.proofs.Paths.{touched-new, fresh-quiet}
-use Rattle.model.proofs.Built.{length-build, length-build-null}
+use Rattle.model.proofs.Built.{Between, length-build, length-build-null}
 use Rattle.model.proofs.PastTree.{Laid, laid-holes, laid-path, laid-arrives}
 use Rattle.model.proofs.Shown.{words-pos}
 use Rattle.model.proofs.Supplied.{Supply, supply-order, lowest-rule}
 use Rattle.model.proofs.Steps.{committed, allCommitted, performed-steps}
+use Rattle.model.proofs.Writing.{Writing, Spanned, Growing}
 use Rattle.model.proofs.SizeWays.{empty-height, empty-block, empty-held}
 use Rattle.model.proofs.LeafWay.{treePages, leafStep, leaf-held, leaf-height, leaf-block, leaf-size}
-use Rattle.model.proofs.GrowthWay.{growthStep, growing-cases, growth-good, growth-size, growth-reaches, growth-supply, growth-walks}
-use Rattle.model.proofs.Plans.{growth-first, still-plan, growth-is, grown-plan, write-good}
+use Rattle.model.proofs.GrowthWay.{growthStep, growing-cases, growth-size, growth-reaches, growth-supply, growth-walks}
+use Rattle.model.proofs.Plans.{growth-first, still-plan, growth-is, grown-plan, grown-writing, write-good}
 use Rattle.model.proofs.Rules.{write-passed, one-stores}
 
 -- ---- Which way it goes
@@ -65,14 +65,13 @@ beyond-hole : (g : Layout) (b : List ℕ) (f i : ℕ) → span (g .words) (root 
 unfolding walkTo rootWalk
 beyond-hole g b f i l = rw (le-ltb i (span (g .words) (root g b f % g .words)) l)
 
-module _ (g : Layout) (fit : Fits g) (b : List ℕ) (t : T (accepted g b)) (f : ℕ) (f-lt : f < files g) (o : ℕ) (new : List ℕ) (some : 0 < length new) (small : Small new)
-    (most : o + length new ≤ greatest g) (reach : 0 < size g b f → o + length new ≤ span (g .words) (root g b f % g .words))
-    (fresh : ℕ → ℕ) (c lim : ℕ) (supply : Supply g b fresh c lim) (past : size g b f < o) (taken : List ℕ) where
+module _ {g : Layout} {b : List ℕ} {f o : ℕ} {new : List ℕ} (w : Writing g b f o new) (some : 0 < length new) (reach : Spanned g b f (o + length new))
+    {fresh : ℕ → ℕ} {c lim : ℕ} (supply : Supply g b fresh c lim) (past : size g b f < o) (taken : List ℕ) where
   abbrev W : ℕ
   W = g .words
 
   pos : 0 < W
-  pos = words-pos g fit
+  pos = words-pos g (w .on .fit)
 
   -- on the board that a plan of one step leaves, whose fresh blocks, from number c on, are among those taken
   abbrev Past : Plan → Type 0
@@ -91,15 +90,15 @@ module _ (g : Layout) (fit : Fits g) (b : List ℕ) (t : T (accepted g b)) (f : 
       let h : ℕ = least W (g .height) (o + length new) in
       let count : freshNeed W b h 0 0 o (length new) ≡ need W h o (length new) = fresh-quiet W b h 0 0 o (length new) (inl refl) in
       let len : length (build W fresh b h 0 0 o new c) ≡ need W h o (length new) = length-build-null W pos b fresh h 0 o new c in
-      let high = empty-height g fit b t f f-lt new some small fresh c lim supply z o most room in
-      let block = empty-block g fit b t f f-lt new some small fresh c lim supply z o most room in
+      let high = empty-height (w .on) w some z supply room in
+      let block = empty-block (w .on) w some z supply room in
       record {
         copied = λ l. absurd (omega arith);
         arrives = λ x. absurd (rw (empty-hole z (size g b f - 1)) at x);
-        holes = rw (high, block, z, ← count) (laid-holes W pos b fresh _ lim (supply .nonzero) h 0 0 o new c (record {
+        holes = rw (high, block, z, ← count) (laid-holes W pos b _ (supply .between) {h = h} {k = 0} {n = 0} {new = new} (record {
           test = touched-new W h 0 0 o (length new) some;
           room-for = omega (arith, count, len);
-          pages = empty-held g fit b t f f-lt new some small fresh c lim supply z o most room;
+          pages = empty-held (w .on) w some z supply room;
         }) (λ l. absurd (omega arith)));
       }
 
@@ -113,22 +112,22 @@ module _ (g : Layout) (fit : Fits g) (b : List ℕ) (t : T (accepted g b)) (f : 
       let len : length (treePages g fresh b f o new c) ≡ freshNeed W b h k n o (length new) = length-build W pos b fresh h k n o new c in
       let within : n - 1 < span W h = omega arith in
       let b′ : List ℕ = committed b (leafStep g fresh b f o new c) in
-      let high = leaf-height g fit b t f f-lt o new some small l (omega arith) under most fresh c lim supply room in
+      let high = leaf-height w some l (omega arith) under supply room in
       let block : root g b′ f / W ≡ fresh (c + freshNeed W b h k n o (length new) - 1) =
-      leaf-block g fit b t f f-lt o new some small l (omega arith) under most fresh c lim supply room ∙ ap (λ (x : ℕ). fresh (c + x - 1)) len in
-      let now = leaf-size g fit b t f f-lt o new some small l (omega arith) under most fresh c lim supply room in
+      leaf-block w some l (omega arith) under supply room ∙ ap (λ (x : ℕ). fresh (c + x - 1)) len in
+      let now = leaf-size w some l (omega arith) under supply room in
       let end : ℕ = c + length (treePages g fresh b f o new c) + 1 in
-      let there : (i : ℕ) → i < end → 0 < fresh i = λ i u. supply .nonzero i (omega arith) in
-      let laid : Laid W pos b fresh b′ end there h k n o new c = record {
+      let there : Between fresh end (blockCount g b - 1) = record { nonzero = λ i u. supply .between .nonzero i (omega arith); below = λ i u. supply .between .below i (omega arith) } in
+      let laid : Laid W pos b b′ there h k n o new c = record {
         test = touched-new W h k n o (length new) some;
         room-for = omega (arith, len);
-        pages = leaf-held g fit b t f f-lt o new some small l (omega arith) under most fresh c lim supply room;
+        pages = leaf-held w some l (omega arith) under supply room;
       } in
       record {
-        copied = λ z. rw (high, block) (laid-path W pos b fresh b′ end there (λ q. member q taken) c among h k n o new c (omega arith) laid l (omega arith) past);
+        copied = λ z. rw (high, block) (laid-path W pos b b′ there (λ q. member q taken) c among laid (omega arith) l (omega arith) past);
         arrives = λ x. rw (high, block, now, lt-ltb (n - 1) (span W h) within)
-            (laid-arrives W pos b fresh b′ end there h k n o new c _ laid l (omega arith) past (omega arith) (rw (lt-ltb (n - 1) (span W h) within) at x));
-        holes = rw (high, block) (laid-holes W pos b fresh b′ end there h k n o new c laid (λ z. past));
+            (laid-arrives W pos b b′ there _ laid l (omega arith) past (omega arith) (rw (lt-ltb (n - 1) (span W h) within) at x));
+        holes = rw (high, block) (laid-holes W pos b b′ there laid (λ z. past));
       }
 
   way-past : Past (way g fresh b f o new c past)
@@ -164,7 +163,10 @@ past-from g b c b′ f o l taken e walks p = record {
   holes = rw e at (p .holes);
 }
 
-module _ (g : Layout) (fit : Fits g) (b : List ℕ) (t : T (accepted g b)) (f : ℕ) (f-lt : f < files g) (o : ℕ) (past : size g b f < o) where
+module _ {g : Layout} {b : List ℕ} {f o : ℕ} {new : List ℕ} (w : Writing g b f o new) (some : 0 < length new) (past : size g b f < o) where
+  abbrev e : ℕ
+  e = o + length new
+
   abbrev fresh : ℕ → ℕ
   fresh = lowest g b
 
@@ -178,64 +180,55 @@ module _ (g : Layout) (fit : Fits g) (b : List ℕ) (t : T (accepted g b)) (f : 
   unfolding lowest
   among k n le i u l = member-drop (free g b) n k i u l (omega arith)
 
-  module _ (new : List ℕ) (some : 0 < length new) (small : Small new) (most : o + length new ≤ greatest g) where
-    abbrev e : ℕ
-    e = o + length new
+  -- after growth p, the plan q
+  abbrev Wanted : Plan → Plan → Type 0
+  Wanted p q = q .taken ≤ lim → PastEnd g b (allCommitted b (q .steps)) f o (length new) (drop (p .taken) (take (q .taken) (free g b)))
 
-    -- after growth p, the plan q
-    abbrev Wanted : Plan → Plan → Type 0
-    Wanted p q = q .taken ≤ lim → PastEnd g b (allCommitted b (q .steps)) f o (length new) (drop (p .taken) (take (q .taken) (free g b)))
+  no-growth : growing g b f e ≡ false → Spanned g b f e → Wanted (growth g fresh b f e) (grownPlan g fresh b f o new)
+  unfolding growth plan
+  no-growth still reach = rw (still, still-plan w some lent still) (λ room. way-past w some reach lent past _ room (among 0 _ room))
 
-    no-growth : growing g b f e ≡ false → (0 < size g b f → e ≤ span (g .words) (root g b f % g .words)) → Wanted (growth g fresh b f e) (grownPlan g fresh b f o new)
-    unfolding growth plan
-    no-growth still reach = rw (still, still-plan g fit b t f f-lt o fresh lim lent new some small most still)
-        (λ room. way-past g fit b t f f-lt o new some small most reach fresh 0 lim lent past _ room (among 0 _ room))
+  module _ (grow : Growing g b f e) where
+    abbrev p : Plan
+    p = growthTo g fresh b f (least (g .words) (g .height) e)
 
-    module _ (l : 0 < size g b f) (more : span (g .words) (root g b f % g .words) < e) where
-      abbrev p : Plan
-      p = growthTo g fresh b f (least (g .words) (g .height) e)
+    abbrev c : List ℕ
+    c = committed b (growthStep g fresh b f (least (g .words) (g .height) e))
 
-      abbrev c : List ℕ
-      c = committed b (growthStep g fresh b f (least (g .words) (g .height) e))
+    module _ (enough : p .taken ≤ lim) where
+      -- growth keeps walks that end at a block
+      walks-kept : (i : ℕ) → T (atBlock (walkTo g b f i)) → T (atBlock (walkTo g c f i))
+      unfolding atBlock
+      walks-kept i x = elim (split (span (g .words) (root g b f % g .words)) i) [
+        | inl beyond ↦ absurd (rw (beyond-hole g b f i beyond) at x)
+        | inr within ↦ rw (growth-walks grow lent enough i within) x
+      ]
 
-      module _ (enough : p .taken ≤ lim) where
-        -- growth keeps walks that end at a block
-        walks-kept : (i : ℕ) → T (atBlock (walkTo g b f i)) → T (atBlock (walkTo g c f i))
-        unfolding atBlock
-        walks-kept i x = elim (split (span (g .words) (root g b f % g .words)) i) [
-          | inl beyond ↦ absurd (rw (beyond-hole g b f i beyond) at x)
-          | inr within ↦ rw (growth-walks g fit b t f f-lt l fresh lim lent e most more enough i within) x
-        ]
+      after-growth : Wanted p (afterwards p (chosenWay g fresh c (inodeOf g c f) o new (p .taken)))
+      unfolding growthTo plan afterwards allCommitted
+      after-growth room =
+          let sizes : size g c f ≡ size g b f = growth-size grow lent enough in
+          past-from g b c _ f o (length new) _ sizes walks-kept
+          (way-past (grown-writing w some lent grow enough) some (λ z. growth-reaches grow lent enough) (growth-supply grow lent enough) (rw sizes past) _ room (among (p .taken) _ room))
 
-        after-growth : Wanted p (afterwards p (chosenWay g fresh c (inodeOf g c f) o new (p .taken)))
-        unfolding growthTo plan afterwards allCommitted
-        after-growth room =
-            let sizes : size g c f ≡ size g b f = growth-size g fit b t f f-lt l fresh lim lent e most more enough in
-            past-from g b c _ f o (length new) _ sizes walks-kept
-            (way-past g fit c (growth-good g fit b t f f-lt l fresh lim lent e most more enough .outcome .board) f f-lt o new some small most
-            (λ z. growth-reaches g fit b t f f-lt l fresh lim lent e most more enough) fresh (p .taken) lim (growth-supply g fit b t f f-lt l fresh lim lent e most more enough)
-            (rw sizes past) _ room (among (p .taken) _ room))
+    grows : Wanted (growth g fresh b f e) (grownPlan g fresh b f o new)
+    grows room =
+        let is : growth g fresh b f e ≡ p = growth-is w some lent grow in
+        let enough : p .taken ≤ lim = omega (arith, room, growth-first g fresh b f o new, ap (λ (x : Plan). x .taken) is) in
+        let plan-is = grown-plan w some lent grow enough in
+        rw (is, plan-is) (after-growth enough (rw plan-is at room))
 
-      grows : Wanted (growth g fresh b f e) (grownPlan g fresh b f o new)
-      grows room =
-          let is : growth g fresh b f e ≡ p = growth-is g fit b t f f-lt o fresh lim lent new some small most l more in
-          let enough : p .taken ≤ lim = omega (arith, room, growth-first g fresh b f o new, ap (λ (x : Plan). x .taken) is) in
-          let plan-is = grown-plan g fit b t f f-lt o fresh lim lent new some small most l more enough in
-          rw (is, plan-is) (after-growth enough (rw plan-is at room))
+  past-some : Wanted (growth g fresh b f e) (somePlan g fresh b f (singleBlock g b f o e) o new)
+  unfolding somePlan
+  past-some = rw (none-single g fresh b f o new 0 past some) (elim (growing-cases w) [ inl still ↦ no-growth (still .0) (still .1) | inr grow ↦ grows grow ])
 
-    past-some : Wanted (growth g fresh b f e) (somePlan g fresh b f (singleBlock g b f o e) o new)
-    unfolding somePlan
-    past-some = rw (none-single g fresh b f o new 0 past some) (elim (growing-cases g b f e) [
-      | inl c ↦ no-growth (c .0) (c .1)
-      | inr c ↦ grows (c .1) (c .2)
-    ])
-
-  -- the plan, whatever is written
-  plan-past : (new : List ℕ) → Small new → o + length new ≤ greatest g → 0 < length (pairs (writePlan g fresh b f o new)) → writePlan g fresh b f o new .taken ≤ lim
-      → PastEnd g b (allCommitted b (writePlan g fresh b f o new .steps)) f o (length new) (drop (growth g fresh b f (o + length new) .taken) (take (writePlan g fresh b f o new .taken) (free g b)))
-  unfolding writePlan plan pairs fenced planEpochs
-  plan-past [] small most more room = absurd (omega arith)
-  plan-past (x ∷ new) small most more room = past-some (x ∷ new) (omega arith) small most room
+-- the plan, whatever is written
+plan-past : {g : Layout} {b : List ℕ} {f o : ℕ} {new : List ℕ} → Writing g b f o new → size g b f < o → let p : Plan = writePlan g (lowest g b) b f o new in
+    0 < length (pairs p) → p .taken ≤ length (free g b)
+    → PastEnd g b (allCommitted b (p .steps)) f o (length new) (drop (growth g (lowest g b) b f (o + length new) .taken) (take (p .taken) (free g b)))
+unfolding writePlan plan pairs fenced planEpochs
+plan-past {new = []} w past more room = absurd (omega arith)
+plan-past {new = x ∷ new} w past more room = past-some w (omega arith) past room
 
 -- ---- The rule
 
@@ -245,11 +238,10 @@ past-end-rule g fit b t f o new slice more past =
     let q : Plan = writePlan g (lowest g b) b f o (new .values) in
     elim (planned-either (writeFaults g b f o (new .values) q) (pairs q) slice) [
       | inl d ↦
-          let ok = write-passed g b f o (new .values) q (d .passed) in
-          let small : Small (new .values) = bytes-small (new .values) (new .small) in
-          let good = write-good g fit b t f (ok .0) o (lowest g b) (length (free g b)) (supply-order g b (lowest g b) (lowest-rule g b)) (new .values) small (ok .1) (ok .2) in
+          let ok = write-passed fit t f o new q (d .passed) in
+          let good = write-good (ok .0) (supply-order g b (lowest g b) (lowest-rule g b)) (ok .1) in
           let whole : performed b (stores (pairs q)) ≡ allCommitted b (q .steps) =
-          ap (performed b) (one-stores g fit b t f (ok .0) (overwritten o (new .values) (contents g b f)) q (good .steps-good)) ∙ performed-steps b (q .steps) in
-          rw (d .plans, whole) (plan-past g fit b t f (ok .0) o past (new .values) small (ok .1) (rw (d .plans) at more) (ok .2))
+          ap (performed b) (one-stores g fit b t f (ok .0 .on .file) (overwritten o (new .values) (contents g b f)) q (good .steps-good)) ∙ performed-steps b (q .steps) in
+          rw (d .plans, whole) (plan-past (ok .0) past (rw (d .plans) at more) (ok .1))
       | inr r ↦ absurd (omega (arith, rw (r .plans) at more))
     ]

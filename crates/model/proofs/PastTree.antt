@@ -20,7 +20,7 @@ use Rattle.model.proofs.Trees.{walk-null, walk-here}
 use Rattle.model.proofs.Agree.{seen-live, seen-dead, child-fits}
 use Rattle.model.proofs.Splice.{length-part}
 use Rattle.model.proofs.Paths.{touched-last, untouched-dead, fresh-pos}
-use Rattle.model.proofs.Built.{held, room, held-child, top-old, top-new}
+use Rattle.model.proofs.Built.{Between, held, room, held-child, top-old, top-new}
 
 module _ (W : ℕ) (pos : 0 < W) (b : List ℕ) where
   -- ---- Trees of which nothing is asked: null ones, and those that lie below s
@@ -57,7 +57,7 @@ module _ (W : ℕ) (pos : 0 < W) (b : List ℕ) where
 
 -- ---- The fresh tree, on a board b′ that holds its pages
 
-module _ (W : ℕ) (pos : 0 < W) (b : List ℕ) (fresh : ℕ → ℕ) (b′ : List ℕ) (lim : ℕ) (nonzero : (i : ℕ) → i < lim → 0 < fresh i) where
+module _ (W : ℕ) (pos : 0 < W) (b b′ : List ℕ) {fresh : ℕ → ℕ} {lim upper : ℕ} (within : Between fresh lim upper) where
   -- a write of `new` at o into the tree (h, k, n) takes fresh blocks from number c on, and b′ holds them
   pub record Laid (h k n o : ℕ) (new : List ℕ) (c : ℕ) : Type 0 where
     pub test : touched W h k n o (length new) ≡ true
@@ -68,10 +68,10 @@ module _ (W : ℕ) (pos : 0 < W) (b : List ℕ) (fresh : ℕ → ℕ) (b′ : Li
   abbrev pub top : ℕ → ℕ → ℕ → ℕ → List ℕ → ℕ → ℕ
   top h k n o new c = fresh (c + freshNeed W b h k n o (length new) - 1)
 
-  top-there : (h k n o : ℕ) (new : List ℕ) (c : ℕ) → Laid h k n o new c → 0 < top h k n o new c
-  top-there h k n o new c w = nonzero _ (omega (arith, w .room-for, fresh-pos W b h k n o (length new) (w .test)))
+  top-there : {h k n o : ℕ} {new : List ℕ} {c : ℕ} → Laid h k n o new c → 0 < top h k n o new c
+  top-there {h} {k} {n} {o} {new} w = within .nonzero _ (omega (arith, w .room-for, fresh-pos W b h k n o (length new) (w .test)))
 
-  module _ (h k n o : ℕ) (new : List ℕ) (c : ℕ) (w : Laid (suc h) k n o new c) (j : ℕ) (j-lt : j < W) where
+  module _ {h k n o : ℕ} {new : List ℕ} {c : ℕ} (w : Laid (suc h) k n o new c) (j : ℕ) (j-lt : j < W) where
     -- child j: its block, its bytes below the size, what is written there, and how many blocks are taken before
     abbrev kidBlock : ℕ
     kidBlock = link W b k j / W
@@ -97,19 +97,19 @@ module _ (W : ℕ) (pos : 0 < W) (b : List ℕ) (fresh : ℕ → ℕ) (b′ : Li
               room-for = room W pos b fresh h k n o new c lim (w .test) (w .room-for) j j-lt;
               pages = held-child W pos b fresh b′ h k n o new c (w .test) (w .pages) j j-lt;
             },
-            top-new W pos b fresh b′ lim nonzero h k n o new c (w .test) (w .room-for) (w .pages) j j-lt some,
+            top-new W pos b fresh b′ within h k n o new c (w .test) (w .room-for) (w .pages) j j-lt some,
           )
-          | inr none ↦ inl (none, top-old W pos b fresh b′ lim nonzero h k n o new c (w .test) (w .room-for) (w .pages) j j-lt none)
+          | inr none ↦ inl (none, top-old W pos b fresh b′ within h k n o new c (w .test) (w .room-for) (w .pages) j j-lt none)
         ]
 
   -- pointers past the size that lead to no written byte are null
-  pub laid-holes : (h k n o : ℕ) (new : List ℕ) (c : ℕ) → Laid h k n o new c → (0 < n → n < o) → NullPast W b′ h (top h k n o new c) n o (length new)
+  pub laid-holes : {h k n o : ℕ} {new : List ℕ} {c : ℕ} → Laid h k n o new c → (0 < n → n < o) → NullPast W b′ h (top h k n o new c) n o (length new)
   unfolding NullPast Kid
-  laid-holes zero k n o new c w past = tt
-  laid-holes (suc h) k n o new c w past = λ j j-lt.
+  laid-holes {h = zero} w past = tt
+  laid-holes {h = suc h} {k} {n} {o} {new} {c} w past = λ j j-lt.
       let s = span W h in
       let x : ℕ = link W b k j in
-      elim (kid-either h k n o new c w j j-lt) [
+      elim (kid-either w j j-lt) [
         | inl old ↦ rw (old .1) (elim (split (n - j * s) 0) [
           | inl dead ↦ rw (seen-dead (n - j * s) x (omega arith)) (λ u v. refl, rw (zero-div W) (null-past-null W pos b′ h (n - j * s) (o - j * s) (partLength s j o (length new))))
           | inr live ↦ rw (seen-live (n - j * s) x live) (
@@ -126,14 +126,14 @@ module _ (W : ℕ) (pos : 0 < W) (b : List ℕ) (fresh : ℕ → ℕ) (b′ : Li
         | inr new-kid ↦ (
           λ u v. absurd (false≢true (sym (untouched-dead W h (x / W) (n - j * s) (o - j * s) (partLength s j o (length new)) v (omega arith)) ∙ (rw (length-part s j o new) at (new-kid .0 .test)))),
           rw (new-kid .1, mul-div-cancel-left (top h (x / W) (n - j * s) (o - j * s) (part s j o new) (c + freshBefore W b h k n o (length new) j)) pos, ← (length-part s j o new))
-              (laid-holes h (x / W) (n - j * s) (o - j * s) (part s j o new) (c + freshBefore W b h k n o (length new) j) (new-kid .0) (λ l. omega (arith, past (omega arith)))),
+              (laid-holes (new-kid .0) (λ l. omega (arith, past (omega arith)))),
         )
       ]
 
   -- ---- Byte n − 1
 
   -- what stands under the pointer to it: nothing, there too where nothing stood; or a tree that is laid, and byte n − 1 is the last of its own
-  module _ (h k n o : ℕ) (new : List ℕ) (c : ℕ) (w : Laid (suc h) k n o new c) (some : 0 < n) (fits : n ≤ span W (suc h)) (past : n < o) where
+  module _ {h k n o : ℕ} {new : List ℕ} {c : ℕ} (w : Laid (suc h) k n o new c) (some : 0 < n) (fits : n ≤ span W (suc h)) (past : n < o) where
     abbrev j : ℕ
     j = (n - 1) / span W h
 
@@ -166,7 +166,7 @@ module _ (W : ℕ) (pos : 0 < W) (b : List ℕ) (fresh : ℕ → ℕ) (b′ : Li
 
     last-either : Last
     unfolding Last Kid
-    last-either = elim (kid-either h k n o new c w j (place .which)) [
+    last-either = elim (kid-either w j (place .which)) [
       | inl old ↦ elim (split (link W b k j / W) 0) [
         | inl hole ↦
             let null : link W b k j / W ≡ 0 = omega arith in
@@ -177,31 +177,31 @@ module _ (W : ℕ) (pos : 0 < W) (b : List ℕ) (fresh : ℕ → ℕ) (b′ : Li
     ]
 
   -- every block on the path to it is one of the fresh ones, from number first on
-  pub laid-path : (p : ℕ → Bool) (first : ℕ) → ((i : ℕ) → first ≤ i → i < lim → T (p (fresh i))) → (h k n o : ℕ) (new : List ℕ) (c : ℕ) → first ≤ c → Laid h k n o new c → 0 < n → n ≤ span W h → n < o
+  pub laid-path : (p : ℕ → Bool) (first : ℕ) → ((i : ℕ) → first ≤ i → i < lim → T (p (fresh i))) → {h k n o : ℕ} {new : List ℕ} {c : ℕ} → Laid h k n o new c → first ≤ c → 0 < n → n ≤ span W h → n < o
       → T (all p (path W b′ h (top h k n o new c) (n - 1)))
   unfolding all Last
-  laid-path p first ok zero k n o new c le w some fits past = rw (path-data W pos b′ (top zero k n o new c) (n - 1) (top-there zero k n o new c w))
+  laid-path p first ok {h = zero} {k} {n} {o} {new} {c} w le some fits past = rw (path-data W pos b′ (top zero k n o new c) (n - 1) (top-there w))
       (and-both (p (top zero k n o new c)) true (ok _ (omega (arith, fresh-pos W b zero k n o (length new) (w .test))) (omega (arith, w .room-for, fresh-pos W b zero k n o (length new) (w .test)))) tt)
-  laid-path p first ok (suc h) k n o new c le w some fits past =
-      let y : ℕ = below h k n o new c w some fits past in
-      rw (path-node W pos b′ h (top (suc h) k n o new c) (n - 1) (top-there (suc h) k n o new c w), kid-last h k n o new c w some fits past)
-      (and-both (p (top (suc h) k n o new c)) (all p (path W b′ h y (m h k n o new c w some fits past - 1))) (ok _ (omega (arith, fresh-pos W b (suc h) k n o (length new) (w .test))) (omega (arith, w .room-for, fresh-pos W b (suc h) k n o (length new) (w .test))))
-      (elim (last-either h k n o new c w some fits past) [
-        | inl null ↦ rw (null .1, path-null W pos b′ h (m h k n o new c w some fits past - 1)) tt
-        | inr laid ↦ rw (laid .1) (laid-path p first ok h _ _ _ _ _ (omega arith) (laid .0) (kid-some h k n o new c w some fits past) (kid-fits h k n o new c w some fits past) (kid-past h k n o new c w some fits past))
+  laid-path p first ok {h = suc h} {k} {n} {o} {new} {c} w le some fits past =
+      let y : ℕ = below w some fits past in
+      rw (path-node W pos b′ h (top (suc h) k n o new c) (n - 1) (top-there w), kid-last w some fits past)
+      (and-both (p (top (suc h) k n o new c)) (all p (path W b′ h y (m w some fits past - 1))) (ok _ (omega (arith, fresh-pos W b (suc h) k n o (length new) (w .test))) (omega (arith, w .room-for, fresh-pos W b (suc h) k n o (length new) (w .test))))
+      (elim (last-either w some fits past) [
+        | inl null ↦ rw (null .1, path-null W pos b′ h (m w some fits past - 1)) tt
+        | inr laid ↦ rw (laid .1) (laid-path p first ok (laid .0) (omega arith) (kid-some w some fits past) (kid-fits w some fits past) (kid-past w some fits past))
       ]))
 
   -- and the walk to it still ends at a block, if it did
-  pub laid-arrives : (h k n o : ℕ) (new : List ℕ) (c m : ℕ) → Laid h k n o new c → 0 < n → n ≤ span W h → n < o → n ≤ m
+  pub laid-arrives : {h k n o : ℕ} {new : List ℕ} {c : ℕ} (m : ℕ) → Laid h k n o new c → 0 < n → n ≤ span W h → n < o → n ≤ m
       → T (atBlock (walk W b h k n (n - 1))) → T (atBlock (walk W b′ h (top h k n o new c) m (n - 1)))
   unfolding atBlock walk Last
-  laid-arrives zero k n o new c m′ w some fits past le t = rw (walk-here W b′ (top zero k n o new c) m′ (n - 1) (omega arith) (omega (arith, top-there zero k n o new c w))) tt
-  laid-arrives (suc h) k n o new c m′ w some fits past le t =
+  laid-arrives {h = zero} {k} {n} {o} {new} {c} m′ w some fits past le t = rw (walk-here W b′ (top zero k n o new c) m′ (n - 1) (omega arith) (omega (arith, top-there w))) tt
+  laid-arrives {h = suc h} {k} {n} {o} {new} {c} m′ w some fits past le t =
       let s = span W h in
-      let n′ : ℕ = m h k n o new c w some fits past in
-      let e : (n - 1) % s ≡ n′ - 1 = kid-last h k n o new c w some fits past in
-      elim (last-either h k n o new c w some fits past) [
+      let n′ : ℕ = m w some fits past in
+      let e : (n - 1) % s ≡ n′ - 1 = kid-last w some fits past in
+      elim (last-either w some fits past) [
         | inl null ↦ absurd (rw (null .0, walk-null W b h n′ ((n - 1) % s)) at t)
-        | inr laid ↦ rw (laid .1, e) (laid-arrives h _ _ _ _ _ (m′ - (n - 1) / s * s) (laid .0) (kid-some h k n o new c w some fits past) (kid-fits h k n o new c w some fits past)
-            (kid-past h k n o new c w some fits past) (omega arith) (rw e at t))
+        | inr laid ↦ rw (laid .1, e) (laid-arrives (m′ - (n - 1) / s * s) (laid .0) (kid-some w some fits past) (kid-fits w some fits past)
+            (kid-past w some fits past) (omega arith) (rw e at t))
       ]

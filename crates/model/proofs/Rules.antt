@@ -15,6 +15,7 @@ use Rattle.model.specs.declared.Fault.the-variants.{FileNumber, End, Fre
 use Rattle.model.specs.declared.Fault.{Fault}
 use Rattle.model.specs.Lists.{tabulate, all, filter, concat, member, distinct, occ}
 use Rattle.model.specs.Layout.{Layout, Fits, files}
+use Rattle.model.specs.Words.{Bytes}
 use Rattle.model.specs.Board.{greatest, walkTo, contents, liveBlocks, free, inRange, accepted}
 use Rattle.model.specs.Store.{Store, performed, stores, epochs, fenced}
 use Rattle.model.specs.Hidden.{hidden}
@@ -42,6 +43,7 @@ use Rattle.model.proofs.Safety.{none-safe, Stays, Settled, settled-one}
 use Rattle.model.proofs.Steps.{committed, length-committed, allCommitted, Reads, SafeSteps, one-step, steps-stores, front, front-last, front-all, performed-steps, steps-rule, steps-whole}
 use Rattle.model.proofs.GoodSteps.{StepTo, InBlocks, theFile, onlyFile, only-file, only-others, step-safe, GoodSteps}
 use Rattle.model.proofs.Taking.{blocksOf}
+use Rattle.model.proofs.Writing.{Writing}
 use Rattle.model.proofs.Plans.{write-good, length-good, GoodPlan}
 
 -- ---- Good steps are safe, and leave all files reading as wanted
@@ -50,8 +52,8 @@ module _ (g : Layout) (touched : ℕ → Bool) (wanted : ℕ → List ℕ) (Last
   pub good-safe-steps : (b : List ℕ) (ps : List Step) → GoodSteps g touched b ps wanted Last → SafeSteps g touched b ps
   unfolding GoodSteps SafeSteps
   good-safe-steps b [] s = tt
-  good-safe-steps b (p ∷ []) s = one-step g touched b p (step-safe g touched b p wanted Last s)
-  good-safe-steps b (p ∷ q ∷ ps) s = (step-safe g touched b p (contents g b) (InBlocks g b) (s .0), λ l. s .0 .reads, good-safe-steps (committed b p) (q ∷ ps) (s .1))
+  good-safe-steps b (p ∷ []) s = one-step g touched b p (step-safe s)
+  good-safe-steps b (p ∷ q ∷ ps) s = (step-safe (s .0), λ l. s .0 .reads, good-safe-steps (committed b p) (q ∷ ps) (s .1))
 
   pub good-reads : (b : List ℕ) (ps : List Step) → GoodSteps g touched b ps wanted Last → Reads g (allCommitted b ps) wanted
   unfolding GoodSteps allCommitted
@@ -221,13 +223,20 @@ unfolding fileFaults All
 file-passed g b f h = leb-false (files g) f (all-right Passed (boardFaults g b) ((FileNumber, leb (files g) f) ∷ []) h .0)
 
 -- what holds of a write that no fault turns away
-pub write-passed : (g : Layout) (b : List ℕ) (f o : ℕ) (new : List ℕ) (p : Plan) → All Passed (writeFaults g b f o new p)
-    → (f < files g) × (o + length new ≤ greatest g) × (p .taken ≤ length (free g b))
+pub write-passed : {g : Layout} → Fits g → {b : List ℕ} → T (accepted g b) → (f o : ℕ) (new : Bytes) (p : Plan) → All Passed (writeFaults g b f o (new .values) p)
+    → Writing g b f o (new .values) × (p .taken ≤ length (free g b))
 unfolding writeFaults All
-write-passed g b f o new p h =
-    let own : Faults = (End, ltb (greatest g) (o + length new)) ∷ (FreeBlocks, ltb (length (free g b)) (p .taken)) ∷ [] in
-    let rest : All Passed own = all-right Passed (fileFaults g b f) own h in
-    (file-passed g b f (all-left Passed (fileFaults g b f) own h), ltb-false (greatest g) (o + length new) (rest .0), ltb-false (length (free g b)) (p .taken) (rest .1 .0))
+write-passed {g} fit {b} t f o new p h =
+    let end : ℕ = o + length (new .values) in
+    let own : Faults = (End, ltb (greatest g) end) ∷ (FreeBlocks, ltb (length (free g b)) (p .taken)) ∷ [] in
+    let rest : All Passed own = all-right Passed (fileFaults g b f) own h in (
+      record {
+        on = record { fit = fit; board = t; file = file-passed g b f (all-left Passed (fileFaults g b f) own h) };
+        small = bytes-small (new .values) (new .small);
+        most = ltb-false (greatest g) end (rest .0);
+      },
+      ltb-false (length (free g b)) (p .taken) (rest .1 .0),
+    )
 
 after-done : (c : Change) (before : List ℕ) {a : Answer} {n : ℕ} → a ≡ Done n → after c a before ≡ altered c before
 unfolding after unlessRefused
@@ -244,13 +253,13 @@ module _ (g : Layout) (fit : Fits g) (b : List ℕ) (t : T (accepted g b)) (fres
   call-either (writing f o new) slice =
       let q : Plan = writePlan g fresh b f o (new .values) in
       doing-either g fresh b (writing f o new) (writeFaults g b f o (new .values) q) slice (λ h.
-      let ok = write-passed g b f o (new .values) q h in
-      (ok .0, write-good g fit b t f (ok .0) o fresh (length (free g b)) (supply-order g b fresh order) (new .values) (bytes-small (new .values) (new .small)) (ok .1) (ok .2)))
+      let ok = write-passed fit t f o new q h in
+      (ok .0 .on .file, write-good (ok .0) (supply-order g b fresh order) (ok .1)))
   call-either (lengthTo f n) slice =
       let own : Faults = (End, ltb (greatest g) n) ∷ [] in
       doing-either g fresh b (lengthTo f n) (fileFaults g b f ++ own) slice (λ h.
       let file : f < files g = file-passed g b f (all-left Passed (fileFaults g b f) own h) in
-      (file, length-good g fit b t f file n (ltb-false (greatest g) n (all-right Passed (fileFaults g b f) own h .0)) fresh))
+      (file, length-good (record { fit = fit; board = t; file = file }) n (ltb-false (greatest g) n (all-right Passed (fileFaults g b f) own h .0)) fresh))
 
   module _ (c : Change) where
     abbrev p : Plan

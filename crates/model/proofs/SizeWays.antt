@@ -10,9 +10,9 @@ use lib.ListN.{length, getD, set, length-set, replicate, length-replicate}
 use lib.Dec.{T, eqb}
 use borrow.Author.Tests.{eq-eqb}
 use Rattle.model.specs.Lists.{some, member, occ}
-use Rattle.model.specs.Layout.{Layout, Fits, files}
+use Rattle.model.specs.Layout.{Layout, files}
 use Rattle.model.specs.Tree.{span, least, blocks, sound}
-use Rattle.model.specs.Board.{rootBlocks, greatest, blockCount, leaf, rootAddress, sizeAddress, root, size, fileBlocks, liveBlocks, free, accepted}
+use Rattle.model.specs.Board.{rootBlocks, greatest, blockCount, leaf, rootAddress, sizeAddress, root, size, fileBlocks, liveBlocks, free}
 use Rattle.model.specs.Store.{Store, store, performed}
 use Rattle.model.specs.Hidden.{hiddenUnder, hiddenInFile, hidden}
 use Rattle.model.specs.Plan.{step}
@@ -33,17 +33,20 @@ use Rattle.model.proofs.InPlaceStores.{in-place-hidden, in-place-once}
 use Rattle.model.proofs.Tailed.{zeros-replicate, splice-zeros, hole-changed, length-tail, tail-changed, length-changed}
 use Rattle.model.proofs.Shrunk.{shrink-changed}
 use Rattle.model.proofs.Shown.{Same, words-pos, leaf-of, leaf-live, file-live, same-address, root-block, size-block}
-use Rattle.model.proofs.Accepting.{Facts, facts}
+use Rattle.model.proofs.Accepting.{FileOn, Facts, facts}
 use Rattle.model.proofs.Commits.{FileCommit, Had, had-blocks, Written, spliced, written-commit}
 use Rattle.model.proofs.Apart.{Spot, spot-ranged, spot-root, stored-size, leaf-not-file}
-use Rattle.model.proofs.Committing.{facts-same, spot-same, spot-commit, spot-counts}
+use Rattle.model.proofs.Committing.{on-same, spot-same, spot-commit, spot-counts}
 use Rattle.model.proofs.Supplied.{Supply, supply-once, stored-hidden, stored-apart, stored-not-live}
 use Rattle.model.proofs.Steps.{committed}
+use Rattle.model.proofs.Writing.{Writing}
 use Rattle.model.proofs.GoodSteps.{GoodTurn, epoch-same, epoch-stands}
 
-module _ (g : Layout) (fit : Fits g) (b : List ℕ) (t : T (accepted g b)) (f : ℕ) (f-lt : f < files g) where
+module _ {g : Layout} {b : List ℕ} {f : ℕ} (on : FileOn g b f) where
+  open FileOn on using (fit, board, file)
+
   ok : Facts g b
-  ok = facts g fit b t
+  ok = facts g fit b board
 
   pos : 0 < g .words
   pos = words-pos g fit
@@ -56,10 +59,14 @@ module _ (g : Layout) (fit : Fits g) (b : List ℕ) (t : T (accepted g b)) (f : 
     c₁ = performed b ss
 
     same : Same g b c₁
-    same = epoch-same g fit b t ss hides
+    same = epoch-same g fit b board ss hides
+
+    -- the file there
+    on₁ : FileOn g c₁ f
+    on₁ = on-same on same
 
     stands : Stands c₁ ss
-    stands = epoch-stands g fit b t ss hides once
+    stands = epoch-stands g fit b board ss hides once
 
     -- what the file's tree has become there, if its size becomes m
     pub record Sized (h k o m : ℕ) (new : List ℕ) (extra gone : ℕ → ℕ) : Type 0 where
@@ -72,32 +79,32 @@ module _ (g : Layout) (fit : Fits g) (b : List ℕ) (t : T (accepted g b)) (f : 
       pub fine : T (sound (g .words) b (blockCount g b - 1) h k (size g b f))
       pub spare : (q : ℕ) → occ q (liveBlocks g b) + extra q ≤ 1
 
-    module _ (h k o m : ℕ) (new : List ℕ) (extra gone : ℕ → ℕ) (w : Sized h k o m new extra gone) where
+    module _ {h k o m : ℕ} {new : List ℕ} {extra gone : ℕ → ℕ} (w : Sized h k o m new extra gone) where
       abbrev a : ℕ
       a = sizeAddress g b f
 
       abbrev done : List ℕ
       done = set c₁ a m
 
-      lent-spot : Spot g fit b ok f f-lt a
+      lent-spot : Spot g b f a
       lent-spot = inl (inr refl)
 
-      spot : Spot g fit c₁ (facts-same g fit b c₁ t same) f f-lt a
-      spot = spot-same g fit b c₁ t same f f-lt a lent-spot
+      spot : Spot g c₁ f a
+      spot = spot-same on same a lent-spot
 
       address-kept : rootAddress g b f ≡ rootAddress g c₁ f
-      address-kept = same-address g fit b c₁ same f (leaf-of g fit f f-lt)
+      address-kept = same-address g fit b c₁ same f (leaf-of g fit f file)
 
       len : length b ≡ length done
       len = same .lengths ∙ sym (length-set c₁ a m)
 
       root-kept : root g c₁ f ≡ root g done f
       unfolding sizeAddress
-      root-kept = spot-root g fit c₁ (facts-same g fit b c₁ t same) f f-lt a m spot f f-lt (λ x. omega (arith, x, address-kept))
+      root-kept = spot-root on₁ a m spot f file (λ x. omega (arith, x, address-kept))
 
       now : size g done f ≡ m
       unfolding sizeAddress
-      now = stored-size g fit c₁ (facts-same g fit b c₁ t same) f f-lt a m spot (ap (λ (x : ℕ). x + 1) address-kept)
+      now = stored-size on₁ a m spot (ap (λ (x : ℕ). x + 1) address-kept)
 
       -- the leaf is no block of the tree, also not of what it has become
       leaf-out : occ (a / g .words) (blocks (g .words) c₁ h (root g c₁ f / g .words) m) ≡ 0
@@ -106,13 +113,13 @@ module _ (g : Layout) (fit : Fits g) (b : List ℕ) (t : T (accepted g b)) (f : 
           rw (size-block g fit b f) (omega (
             arith,
             w .change .counts q,
-            ap (occ q) (had-blocks g fit b done len f h k (w .old)),
-            leaf-not-file g b (ok .once) (f / g .inodes) f (leaf-of g fit f f-lt) f-lt,
-            leaf-live g b (f / g .inodes) (leaf-of g fit f f-lt),
+            ap (occ q) (had-blocks g fit b f h k (w .old)),
+            leaf-not-file g b (ok .once) (f / g .inodes) f (leaf-of g fit f file) file,
+            leaf-live g b (f / g .inodes) (leaf-of g fit f file),
             w .spare q,
           ))
 
-      written : Written g fit b done len f h k o m new extra gone
+      written : Written g b done f h k o m new extra gone
       written = record {
         old = w .old;
         height = ap (λ (x : ℕ). x % g .words) (sym root-kept) ∙ w .height;
@@ -124,8 +131,8 @@ module _ (g : Layout) (fit : Fits g) (b : List ℕ) (t : T (accepted g b)) (f : 
             (agree-away (g .words) pos c₁ a m h (root g c₁ f / g .words) m leaf-out));
       }
 
-      file : FileCommit g b done f (spliced g b f o new m) extra gone
-      file = written-commit g fit b done len f h k o m new extra gone written (w .fine)
+      sized-file : FileCommit g b done f (spliced g b f o new m) extra gone
+      sized-file = written-commit fit len written (w .fine)
 
       pub size-good : GoodTurn g b f (step ss a m) (spliced g b f o new m) extra gone
       unfolding step store committed
@@ -133,10 +140,10 @@ module _ (g : Layout) (fit : Fits g) (b : List ℕ) (t : T (accepted g b)) (f : 
         good = record {
           hides = hides;
           once = once;
-          within = spot-ranged g fit b ok f f-lt a lent-spot;
-          outcome = spot-commit g fit b c₁ t same f f-lt a m spot (spliced g b f o new m) extra gone file (w .spare);
+          within = spot-ranged on a lent-spot;
+          outcome = spot-commit on same a m spot sized-file (w .spare);
         };
-        lives = spot-counts g fit b c₁ t same f f-lt a m spot (spliced g b f o new m) extra gone file (w .spare);
+        lives = spot-counts on same a m spot sized-file (w .spare);
       }
 
   -- the file's own tree
@@ -148,14 +155,14 @@ module _ (g : Layout) (fit : Fits g) (b : List ℕ) (t : T (accepted g b)) (f : 
   -- in its tree
   under-hidden : (s : Store) → T (hiddenUnder (g .words) b s (root g b f % g .words) (root g b f / g .words) (size g b f)) → T (hidden g b s)
   unfolding hidden hiddenInFile
-  under-hidden s h = or-right (member (s .at / g .words) (free g b)) (some (files g) (hiddenInFile g b s)) (some-at (files g) (hiddenInFile g b s) f f-lt
+  under-hidden s h = or-right (member (s .at / g .words) (free g b)) (some (files g) (hiddenInFile g b s)) (some-at (files g) (hiddenInFile g b s) f file
       (or-right (eqb (s .at) (rootAddress g b f) && eqb (size g b f) 0) (hiddenUnder (g .words) b s (root g b f % g .words) (root g b f / g .words) (size g b f)) h))
 
   -- its root, where the size is 0
   root-hidden : (v : ℕ) → size g b f ≡ 0 → T (hidden g b (store (rootAddress g b f) v))
   unfolding hidden hiddenInFile store
   root-hidden v z = or-right (member (rootAddress g b f / g .words) (free g b)) (some (files g) (hiddenInFile g b (store (rootAddress g b f) v)))
-      (some-at (files g) (hiddenInFile g b (store (rootAddress g b f) v)) f f-lt (rw (eq-eqb (rootAddress g b f) (rootAddress g b f) refl, eq-eqb (size g b f) 0 z) tt))
+      (some-at (files g) (hiddenInFile g b (store (rootAddress g b f) v)) f file (rw (eq-eqb (rootAddress g b f) (rootAddress g b f) refl, eq-eqb (size g b f) 0 z) tt))
 
   -- what is stored in place in its tree is hidden, and goes to no word twice
   in-tree-hidden : (hook : ℕ → ℕ → ℕ → ℕ) (new : List ℕ) (c : ℕ) → 0 < size g b f → Small new
@@ -169,13 +176,13 @@ module _ (g : Layout) (fit : Fits g) (b : List ℕ) (t : T (accepted g b)) (f : 
   in-tree-once hook new c live x = omega (
     arith,
     in-place-once (g .words) b hook (root g b f % g .words) (root g b f / g .words) (size g b f) new c (rootAddress g b f) x live,
-    file-live g b f (x / g .words) f-lt,
+    file-live g b f (x / g .words) file,
   )
 
   -- the root word that an epoch stored
   root-stored : (ss : List Store) → All (λ s. T (hidden g b s)) ss → (v : ℕ) → getD (performed b ss) (rootAddress g b f) 0 ≡ v → root g (performed b ss) f ≡ v
   unfolding root
-  root-stored ss hides v e = ap (λ (x : ℕ). getD (performed b ss) x 0) (sym (same-address g fit b (performed b ss) (epoch-same g fit b t ss hides) f (leaf-of g fit f f-lt))) ∙ e
+  root-stored ss hides v e = ap (λ (x : ℕ). getD (performed b ss) x 0) (sym (same-address g fit b (performed b ss) (epoch-same g fit b board ss hides) f (leaf-of g fit f file))) ∙ e
 
   -- ---- Length change
 
@@ -183,14 +190,14 @@ module _ (g : Layout) (fit : Fits g) (b : List ℕ) (t : T (accepted g b)) (f : 
   pub shorten-good : (n : ℕ) → n ≤ size g b f → 0 < size g b f → GoodTurn g b f (step [] (sizeAddress g b f) n) (spliced g b f 0 [] n) (λ q. 0)
       (λ q. occ q (droppedBlocks (g .words) b (root g b f % g .words) (root g b f / g .words) (size g b f) n))
   unfolding All occ performed
-  shorten-good n less live = size-good [] tt (λ x. omega arith) (root g b f % g .words) (root g b f / g .words) 0 n [] (λ q. 0) (λ q. occ q (droppedBlocks (g .words) b (root g b f % g .words) (root g b f / g .words) (size g b f) n)) (record {
+  shorten-good n less live = size-good [] tt (λ x. omega arith) (record {
     old = tree-had;
     height = refl;
-    low = ok .low f f-lt live;
-    most = omega (arith, ok .most f f-lt);
+    low = ok .low f file live;
+    most = omega (arith, ok .most f file);
     past = λ i u v. splice-none 0 [] 0 i refl;
     change = shrink-changed (g .words) pos b b (blockCount g b - 1) (root g b f % g .words) (root g b f / g .words) (size g b f) n 0 less (agree-refl (g .words) pos b _ _ _);
-    fine = ok .tree f f-lt;
+    fine = ok .tree f file;
     spare = λ q. omega (arith, ok .once q);
   })
 
@@ -203,7 +210,7 @@ module _ (g : Layout) (fit : Fits g) (b : List ℕ) (t : T (accepted g b)) (f : 
       let hides : All (λ s. T (hidden g b s)) ss = (root-hidden 0 z, tt) in
       let once : (x : ℕ) → occ x (addresses ss) ≤ 1 = λ x. omega (arith, one-most x (rootAddress g b f)) in
       let zero-root : root g (performed b ss) f ≡ 0 = root-stored ss hides 0 (stands ss hides once .0) in
-      size-good ss hides once 0 0 (size g b f) n (replicate (n - size g b f) 0) (λ q. 0) (λ q. 0) (record {
+      size-good ss hides once {h = 0} {k = 0} (record {
         old = λ live. absurd (omega arith);
         height = ap (λ (x : ℕ). x % g .words) zero-root ∙ zero-mod (g .words);
         low = omega arith;
@@ -229,188 +236,186 @@ module _ (g : Layout) (fit : Fits g) (b : List ℕ) (t : T (accepted g b)) (f : 
     clears-once x = omega (arith, in-tree-once (λ h l c. 0) zeros 0 live x, ok .once (x / g .words))
 
     root-same : root g b f ≡ root g (performed b clears) f
-    root-same = same clears clears-hidden clears-once .roots f f-lt live
+    root-same = same clears clears-hidden clears-once .roots f file live
 
     pub lengthen-good : GoodTurn g b f (step clears (sizeAddress g b f) n) (spliced g b f (size g b f) zeros n) (λ q. 0) (λ q. 0)
-    lengthen-good = size-good clears clears-hidden clears-once (root g b f % g .words) (root g b f / g .words) (size g b f) n zeros (λ q. 0) (λ q. 0) (record {
+    lengthen-good = size-good clears clears-hidden clears-once (record {
       old = tree-had;
       height = ap (λ (x : ℕ). x % g .words) (sym root-same);
-      low = ok .low f f-lt live;
+      low = ok .low f file live;
       most = most;
       past = λ i u v. splice-zeros (size g b f) zeros 0 i (zeros-replicate (n - size g b f)) refl;
       change = rw (← root-same) (length-changed (g .words) pos b (performed b clears) (blockCount g b - 1) (root g b f % g .words) (root g b f / g .words) (size g b f) n (n - size g b f) 0 (rootAddress g b f) live (record {
         grows = more;
         fits = rw (length-replicate {A = ℕ} (n - size g b f) 0) (omega arith);
         cover = λ i u v w. (u, rw (length-replicate {A = ℕ} (n - size g b f) 0) (omega arith));
-        visible = same clears clears-hidden clears-once .trees f f-lt;
+        visible = same clears clears-hidden clears-once .trees f file;
         stands = stands clears clears-hidden clears-once;
       }));
-      fine = ok .tree f f-lt;
+      fine = ok .tree f file;
       spare = λ q. omega (arith, ok .once q);
     })
 
   -- ---- Tail
 
-  module _ (new : List ℕ) (filled : 0 < length new) (small : Small new) (fresh : ℕ → ℕ) (c lim : ℕ) (supply : Supply g b fresh c lim) where
-    -- s > 0, and no live pointer on the path is null
-    module _ (live : 0 < size g b f) (path : T (atBlock (walkLive (g .words) b (root g b f % g .words) (root g b f / g .words) (size g b f))))
-        (under : size g b f + length new ≤ span (g .words) (root g b f % g .words)) (most : size g b f + length new ≤ greatest g) where
-      abbrev tails : List Page
-      tails = tailPages (g .words) b fresh (root g b f % g .words) (root g b f / g .words) (size g b f) new c
+  -- s > 0, and no live pointer on the path is null
+  module _ {new : List ℕ} (w : Writing g b f (size g b f) new) (live : 0 < size g b f) (path : T (atBlock (walkLive (g .words) b (root g b f % g .words) (root g b f / g .words) (size g b f))))
+      (under : size g b f + length new ≤ span (g .words) (root g b f % g .words)) {fresh : ℕ → ℕ} {c lim : ℕ} (supply : Supply g b fresh c lim) where
+    abbrev tails : List Page
+    tails = tailPages (g .words) b fresh (root g b f % g .words) (root g b f / g .words) (size g b f) new c
 
-      abbrev others : List Store
-      others = inPlace (g .words) b (λ h l i. freshPointer (g .words) fresh h 0 l i) (root g b f % g .words) (root g b f / g .words) (size g b f) new c (rootAddress g b f)
+    abbrev others : List Store
+    others = inPlace (g .words) b (λ h l i. freshPointer (g .words) fresh h 0 l i) (root g b f % g .words) (root g b f / g .words) (size g b f) new c (rootAddress g b f)
 
-      module _ (room : c + length tails ≤ lim) where
-        abbrev tail-epoch : List Store
-        tail-epoch = stored (g .words) fresh tails c ++ others
+    module _ (room : c + length tails ≤ lim) where
+      abbrev tail-epoch : List Store
+      tail-epoch = stored (g .words) fresh tails c ++ others
 
-        taken : length tails ≡ tailNeed (g .words) (root g b f % g .words) (size g b f) (length new)
-        taken = length-tail (g .words) pos b fresh (root g b f % g .words) (root g b f / g .words) (size g b f) new c
+      taken : length tails ≡ tailNeed (g .words) (root g b f % g .words) (size g b f) (length new)
+      taken = length-tail (g .words) pos b fresh (root g b f % g .words) (root g b f / g .words) (size g b f) new c
 
-        tail-hidden : All (λ s. T (hidden g b s)) tail-epoch
-        tail-hidden = all-append (λ s. T (hidden g b s)) (stored (g .words) fresh tails c) others (stored-hidden g b fresh c lim supply fit tails room)
-            (in-tree-hidden (λ h l i. freshPointer (g .words) fresh h 0 l i) new c live small)
+      tail-hidden : All (λ s. T (hidden g b s)) tail-epoch
+      tail-hidden = all-append (λ s. T (hidden g b s)) (stored (g .words) fresh tails c) others (stored-hidden supply fit tails room)
+          (in-tree-hidden (λ h l i. freshPointer (g .words) fresh h 0 l i) new c live (w .small))
 
-        tail-once : (x : ℕ) → occ x (addresses tail-epoch) ≤ 1
-        tail-once x = omega (
+      tail-once : (x : ℕ) → occ x (addresses tail-epoch) ≤ 1
+      tail-once x = omega (
+        arith,
+        occ-addresses-append x (stored (g .words) fresh tails c) others,
+        stored-once (g .words) fresh tails c x,
+        in-tree-once (λ h l i. freshPointer (g .words) fresh h 0 l i) new c live x,
+        supply-once supply (ok .once) (length tails) room (x / g .words),
+      )
+
+      tail-root : root g b f ≡ root g (performed b tail-epoch) f
+      tail-root = same tail-epoch tail-hidden tail-once .roots f file live
+
+      Stood : Store → Type 0
+      Stood s = getD (performed b tail-epoch) (s .at) 0 ≡ s .value
+
+      pub tail-good : GoodTurn g b f (step tail-epoch (sizeAddress g b f) (size g b f + length new)) (spliced g b f (size g b f) new (size g b f + length new))
+          (λ q. used fresh q c (tailNeed (g .words) (root g b f % g .words) (size g b f) (length new))) (λ q. 0)
+      unfolding Stood
+      tail-good =
+          let all-stand : Stands (performed b tail-epoch) tail-epoch = stands tail-epoch tail-hidden tail-once in
+          size-good tail-epoch tail-hidden tail-once (record {
+            old = tree-had;
+            height = ap (λ (x : ℕ). x % g .words) (sym tail-root);
+            low = ok .low f file live;
+            most = w .most;
+            past = past-span (size g b f) new (span (g .words) (root g b f % g .words)) (size g b f + length new) under;
+            change = rw (← tail-root) (tail-changed (g .words) pos b (performed b tail-epoch) (supply .between)
+                (root g b f % g .words) (root g b f / g .words) (size g b f) (size g b f + length new) new c (rootAddress g b f) live (record {
+                  grows = omega arith;
+                  fits = omega arith;
+                  cover = λ i u v l. (u, v);
+                  visible = same tail-epoch tail-hidden tail-once .trees f file;
+                  stands = all-right Stood (stored (g .words) fresh tails c) others all-stand;
+                }) (w .small) (rw (← taken) room)
+                (held-of-all (g .words) fresh (performed b tail-epoch) tails c (all-left Stood (stored (g .words) fresh tails c) others all-stand)) path);
+            fine = ok .tree f file;
+            spare = λ q. rw (← taken) (supply-once supply (ok .once) (length tails) room q);
+          })
+
+  -- s = 0: *the old root is ignored and the least sufficient height is used*, wherever the bytes begin
+  module _ {o : ℕ} {new : List ℕ} (w : Writing g b f o new) (filled : 0 < length new) (empty : size g b f ≡ 0) {fresh : ℕ → ℕ} {c lim : ℕ} (supply : Supply g b fresh c lim) where
+    abbrev h : ℕ
+    h = least (g .words) (g .height) (o + length new)
+
+    abbrev pages : List Page
+    pages = build (g .words) fresh b h 0 0 o new c
+
+    abbrev hook : ℕ
+    hook = freshPointer (g .words) fresh h o (length new) c + h
+
+    module _ (room : c + length pages ≤ lim) where
+      abbrev first-epoch : List Store
+      first-epoch = stored (g .words) fresh pages c ++ (store (rootAddress g b f) hook ∷ [])
+
+      first-taken : length pages ≡ need (g .words) h o (length new)
+      first-taken = length-build-null (g .words) pos b fresh h 0 o new c
+
+      first-hidden : All (λ s. T (hidden g b s)) first-epoch
+      unfolding All
+      first-hidden = all-append (λ s. T (hidden g b s)) (stored (g .words) fresh pages c) (store (rootAddress g b f) hook ∷ []) (stored-hidden supply fit pages room) (root-hidden hook empty, tt)
+
+      first-once : (x : ℕ) → occ x (addresses first-epoch) ≤ 1
+      unfolding occ store
+      first-once x = elim (decide x (rootAddress g b f)) [
+        | inl e ↦ rw e (omega (
           arith,
-          occ-addresses-append x (stored (g .words) fresh tails c) others,
-          stored-once (g .words) fresh tails c x,
-          in-tree-once (λ h l i. freshPointer (g .words) fresh h 0 l i) new c live x,
-          supply-once g b fresh c lim supply (ok .once) (length tails) room (x / g .words),
+          occ-addresses-append (rootAddress g b f) (stored (g .words) fresh pages c) (store (rootAddress g b f) hook ∷ []),
+          one-same (rootAddress g b f),
+          addresses-away (rootAddress g b f) (stored (g .words) fresh pages c) (all-map (λ s. s .at ≢ rootAddress g b f) (λ s. rootAddress g b f ≢ s .at) (λ s d z. d (sym z)) (stored (g .words) fresh pages c)
+              (stored-not-live supply pages room (rootAddress g b f) (rw (root-block g fit b f) (leaf-live g b (f / g .inodes) (leaf-of g fit f file))))),
+        ))
+        | inr d ↦ omega (
+          arith,
+          occ-addresses-append x (stored (g .words) fresh pages c) (store (rootAddress g b f) hook ∷ []),
+          one-other x (rootAddress g b f) d,
+          stored-apart supply pages room x,
         )
+      ]
 
-        tail-root : root g b f ≡ root g (performed b tail-epoch) f
-        tail-root = same tail-epoch tail-hidden tail-once .roots f f-lt live
+      h-fits : h < g .words
+      h-fits = omega (arith, fit .heights-fit, least-within (g .words) pos (g .height) (o + length new))
 
-        Stood : Store → Type 0
-        Stood s = getD (performed b tail-epoch) (s .at) 0 ≡ s .value
+      hook-low : hook % g .words ≡ h
+      unfolding freshPointer
+      hook-low = mul-add-mod-self-left (g .words) (fresh (c + need (g .words) h o (length new) - 1)) h ∙ mod-eq-of-lt h-fits
 
-        pub tail-good : GoodTurn g b f (step tail-epoch (sizeAddress g b f) (size g b f + length new)) (spliced g b f (size g b f) new (size g b f + length new))
-            (λ q. used fresh q c (tailNeed (g .words) (root g b f % g .words) (size g b f) (length new))) (λ q. 0)
-        unfolding Stood
-        tail-good =
-            let all-stand : Stands (performed b tail-epoch) tail-epoch = stands tail-epoch tail-hidden tail-once in
-            size-good tail-epoch tail-hidden tail-once (root g b f % g .words) (root g b f / g .words) (size g b f) (size g b f + length new) new
-            (λ q. used fresh q c (tailNeed (g .words) (root g b f % g .words) (size g b f) (length new))) (λ q. 0) (record {
-              old = tree-had;
-              height = ap (λ (x : ℕ). x % g .words) (sym tail-root);
-              low = ok .low f f-lt live;
-              most = most;
-              past = past-span (size g b f) new (span (g .words) (root g b f % g .words)) (size g b f + length new) under;
-              change = rw (← tail-root) (tail-changed (g .words) pos b (performed b tail-epoch) fresh lim (supply .nonzero) (blockCount g b - 1) (supply .below)
-                  (root g b f % g .words) (root g b f / g .words) (size g b f) (size g b f + length new) new c (rootAddress g b f) live (record {
-                    grows = omega arith;
-                    fits = omega arith;
-                    cover = λ i u v w. (u, v);
-                    visible = same tail-epoch tail-hidden tail-once .trees f f-lt;
-                    stands = all-right Stood (stored (g .words) fresh tails c) others all-stand;
-                  }) small (rw (← taken) room)
-                  (held-of-all (g .words) fresh (performed b tail-epoch) tails c (all-left Stood (stored (g .words) fresh tails c) others all-stand)) path);
-              fine = ok .tree f f-lt;
-              spare = λ q. rw (← taken) (supply-once g b fresh c lim supply (ok .once) (length tails) room q);
-            })
+      hook-block : hook / g .words ≡ fresh (c + need (g .words) h o (length new) - 1)
+      unfolding freshPointer
+      hook-block = address-block (g .words) (fresh (c + need (g .words) h o (length new) - 1)) h h-fits
 
-    -- s = 0: *the old root is ignored and the least sufficient height is used*, wherever the bytes begin
-    module _ (empty : size g b f ≡ 0) (o : ℕ) (most : o + length new ≤ greatest g) where
-      abbrev h : ℕ
-      h = least (g .words) (g .height) (o + length new)
+      Held : Store → Type 0
+      Held s = getD (performed b first-epoch) (s .at) 0 ≡ s .value
 
-      abbrev pages : List Page
-      pages = build (g .words) fresh b h 0 0 o new c
+      -- the board after the epoch has the pages, and a root that leads to them
+      all-stand : Stands (performed b first-epoch) first-epoch
+      all-stand = stands first-epoch first-hidden first-once
 
-      abbrev hook : ℕ
-      hook = freshPointer (g .words) fresh h o (length new) c + h
+      root-is : root g (performed b first-epoch) f ≡ hook
+      unfolding Held All store
+      root-is = root-stored first-epoch first-hidden hook (all-right Held (stored (g .words) fresh pages c) (store (rootAddress g b f) hook ∷ []) all-stand .0)
 
-      module _ (room : c + length pages ≤ lim) where
-        abbrev first-epoch : List Store
-        first-epoch = stored (g .words) fresh pages c ++ (store (rootAddress g b f) hook ∷ [])
+      pages-stand : Stands (performed b first-epoch) (stored (g .words) fresh pages c)
+      unfolding Held
+      pages-stand = all-left Held (stored (g .words) fresh pages c) (store (rootAddress g b f) hook ∷ []) all-stand
 
-        first-taken : length pages ≡ need (g .words) h o (length new)
-        first-taken = length-build-null (g .words) pos b fresh h 0 o new c
+      sized : Sized first-epoch first-hidden first-once h 0 o (o + length new) new (λ q. used fresh q c (need (g .words) h o (length new))) (λ q. 0)
+      unfolding greatest
+      sized = record {
+        old = λ live. absurd (omega arith);
+        height = ap (λ (x : ℕ). x % g .words) root-is ∙ hook-low;
+        low = least-within (g .words) pos (g .height) (o + length new);
+        most = w .most;
+        past = past-span o new (span (g .words) h) (o + length new) (omega (arith, least-reaches (g .words) pos (g .height) (o + length new) (w .most)));
+        change = rw (ap (λ (x : ℕ). x / g .words) root-is ∙ hook-block, empty) (build-null-changed (g .words) pos b fresh (performed b first-epoch) (supply .between)
+            h o new c (o + length new) filled (rw (← first-taken) room) (w .small) (held-of-all (g .words) fresh (performed b first-epoch) pages c pages-stand) (omega arith) (λ i u v l. omega arith));
+        fine = rw (sound-null (g .words) b (blockCount g b - 1) h (size g b f)) tt;
+        spare = λ q. rw (← first-taken) (supply-once supply (ok .once) (length pages) room q);
+      }
 
-        first-hidden : All (λ s. T (hidden g b s)) first-epoch
-        unfolding All
-        first-hidden = all-append (λ s. T (hidden g b s)) (stored (g .words) fresh pages c) (store (rootAddress g b f) hook ∷ []) (stored-hidden g b fresh c lim supply fit pages room) (root-hidden hook empty, tt)
+      pub empty-tail-good : GoodTurn g b f (step first-epoch (sizeAddress g b f) (o + length new)) (spliced g b f o new (o + length new))
+          (λ q. used fresh q c (need (g .words) h o (length new))) (λ q. 0)
+      empty-tail-good = size-good first-epoch first-hidden first-once sized
 
-        first-once : (x : ℕ) → occ x (addresses first-epoch) ≤ 1
-        unfolding occ store
-        first-once x = elim (decide x (rootAddress g b f)) [
-          | inl e ↦ rw e (omega (
-            arith,
-            occ-addresses-append (rootAddress g b f) (stored (g .words) fresh pages c) (store (rootAddress g b f) hook ∷ []),
-            one-same (rootAddress g b f),
-            addresses-away (rootAddress g b f) (stored (g .words) fresh pages c) (all-map (λ s. s .at ≢ rootAddress g b f) (λ s. rootAddress g b f ≢ s .at) (λ s d z. d (sym z)) (stored (g .words) fresh pages c)
-                (stored-not-live g b fresh c lim supply pages room (rootAddress g b f) (rw (root-block g fit b f) (leaf-live g b (f / g .inodes) (leaf-of g fit f f-lt))))),
-          ))
-          | inr d ↦ omega (
-            arith,
-            occ-addresses-append x (stored (g .words) fresh pages c) (store (rootAddress g b f) hook ∷ []),
-            one-other x (rootAddress g b f) d,
-            stored-apart g b fresh c lim supply pages room x,
-          )
-        ]
+      -- ---- The board that it leaves
 
-        h-fits : h < g .words
-        h-fits = omega (arith, fit .heights-fit, least-within (g .words) pos (g .height) (o + length new))
+      empty-root : root g (committed b (step first-epoch (sizeAddress g b f) (o + length new))) f ≡ hook
+      unfolding step store committed
+      empty-root = sym (root-kept first-epoch first-hidden first-once sized) ∙ root-is
 
-        hook-low : hook % g .words ≡ h
-        unfolding freshPointer
-        hook-low = mul-add-mod-self-left (g .words) (fresh (c + need (g .words) h o (length new) - 1)) h ∙ mod-eq-of-lt h-fits
+      pub empty-height : root g (committed b (step first-epoch (sizeAddress g b f) (o + length new))) f % g .words ≡ h
+      empty-height = ap (λ (x : ℕ). x % g .words) empty-root ∙ hook-low
 
-        hook-block : hook / g .words ≡ fresh (c + need (g .words) h o (length new) - 1)
-        unfolding freshPointer
-        hook-block = address-block (g .words) (fresh (c + need (g .words) h o (length new) - 1)) h h-fits
+      pub empty-block : root g (committed b (step first-epoch (sizeAddress g b f) (o + length new))) f / g .words ≡ fresh (c + need (g .words) h o (length new) - 1)
+      empty-block = ap (λ (x : ℕ). x / g .words) empty-root ∙ hook-block
 
-        Held : Store → Type 0
-        Held s = getD (performed b first-epoch) (s .at) 0 ≡ s .value
-
-        -- the board after the epoch has the pages, and a root that leads to them
-        all-stand : Stands (performed b first-epoch) first-epoch
-        all-stand = stands first-epoch first-hidden first-once
-
-        root-is : root g (performed b first-epoch) f ≡ hook
-        unfolding Held All store
-        root-is = root-stored first-epoch first-hidden hook (all-right Held (stored (g .words) fresh pages c) (store (rootAddress g b f) hook ∷ []) all-stand .0)
-
-        pages-stand : Stands (performed b first-epoch) (stored (g .words) fresh pages c)
-        unfolding Held
-        pages-stand = all-left Held (stored (g .words) fresh pages c) (store (rootAddress g b f) hook ∷ []) all-stand
-
-        sized : Sized first-epoch first-hidden first-once h 0 o (o + length new) new (λ q. used fresh q c (need (g .words) h o (length new))) (λ q. 0)
-        unfolding greatest
-        sized = record {
-          old = λ live. absurd (omega arith);
-          height = ap (λ (x : ℕ). x % g .words) root-is ∙ hook-low;
-          low = least-within (g .words) pos (g .height) (o + length new);
-          most = most;
-          past = past-span o new (span (g .words) h) (o + length new) (omega (arith, least-reaches (g .words) pos (g .height) (o + length new) most));
-          change = rw (ap (λ (x : ℕ). x / g .words) root-is ∙ hook-block, empty) (build-null-changed (g .words) pos b fresh (performed b first-epoch) lim (supply .nonzero) (blockCount g b - 1) (supply .below)
-              h o new c (o + length new) filled (rw (← first-taken) room) small (held-of-all (g .words) fresh (performed b first-epoch) pages c pages-stand) (omega arith) (λ i u v w. omega arith));
-          fine = rw (sound-null (g .words) b (blockCount g b - 1) h (size g b f)) tt;
-          spare = λ q. rw (← first-taken) (supply-once g b fresh c lim supply (ok .once) (length pages) room q);
-        }
-
-        pub empty-tail-good : GoodTurn g b f (step first-epoch (sizeAddress g b f) (o + length new)) (spliced g b f o new (o + length new))
-            (λ q. used fresh q c (need (g .words) h o (length new))) (λ q. 0)
-        empty-tail-good = size-good first-epoch first-hidden first-once h 0 o (o + length new) new (λ q. used fresh q c (need (g .words) h o (length new))) (λ q. 0) sized
-
-        -- ---- The board that it leaves
-
-        empty-root : root g (committed b (step first-epoch (sizeAddress g b f) (o + length new))) f ≡ hook
-        unfolding step store committed
-        empty-root = sym (root-kept first-epoch first-hidden first-once h 0 o (o + length new) new (λ q. used fresh q c (need (g .words) h o (length new))) (λ q. 0) sized) ∙ root-is
-
-        pub empty-height : root g (committed b (step first-epoch (sizeAddress g b f) (o + length new))) f % g .words ≡ h
-        empty-height = ap (λ (x : ℕ). x % g .words) empty-root ∙ hook-low
-
-        pub empty-block : root g (committed b (step first-epoch (sizeAddress g b f) (o + length new))) f / g .words ≡ fresh (c + need (g .words) h o (length new) - 1)
-        empty-block = ap (λ (x : ℕ). x / g .words) empty-root ∙ hook-block
-
-        -- the size stands in the leaf, which is no fresh block
-        pub empty-held : held (g .words) fresh (committed b (step first-epoch (sizeAddress g b f) (o + length new))) pages c
-        unfolding step store committed
-        empty-held = held-of-all (g .words) fresh (set (performed b first-epoch) (sizeAddress g b f) (o + length new)) pages c
-            (stands-set (performed b first-epoch) (stored (g .words) fresh pages c) (sizeAddress g b f) (o + length new)
-            (stored-not-live g b fresh c lim supply pages room (sizeAddress g b f) (rw (size-block g fit b f) (leaf-live g b (f / g .inodes) (leaf-of g fit f f-lt)))) pages-stand)
+      -- the size stands in the leaf, which is no fresh block
+      pub empty-held : held (g .words) fresh (committed b (step first-epoch (sizeAddress g b f) (o + length new))) pages c
+      unfolding step store committed
+      empty-held = held-of-all (g .words) fresh (set (performed b first-epoch) (sizeAddress g b f) (o + length new)) pages c
+          (stands-set (performed b first-epoch) (stored (g .words) fresh pages c) (sizeAddress g b f) (o + length new)
+          (stored-not-live supply pages room (sizeAddress g b f) (rw (size-block g fit b f) (leaf-live g b (f / g .inodes) (leaf-of g fit f file)))) pages-stand)

@@ -19,21 +19,19 @@ use Rattle.model.proofs.Cases.{split, is-true}
 use Rattle.model.proofs.Counting.{occ-first}
 use Rattle.model.proofs.Perform.{All, performed-away, address-block, stored-blocks}
 use Rattle.model.proofs.Addresses.{all-map, addresses, used-none, used-once, stored-once}
-use Rattle.model.proofs.Built.{used}
+use Rattle.model.proofs.Built.{Between, used}
 use Rattle.model.proofs.Census.{FreeBlock, free-at, free-rises, member-free, free-member}
 
 -- the blocks fresh i with i < lim differ and lie in 1 to B − 2; those with c ≤ i are not live
 pub record Supply (g : Layout) (b : List ℕ) (fresh : ℕ → ℕ) (c lim : ℕ) : Type 0 where
-  pub nonzero : (i : ℕ) → i < lim → 0 < fresh i
-  pub below : (i : ℕ) → i < lim → fresh i < blockCount g b - 1
+  pub between : Between fresh lim (blockCount g b - 1)
   pub apart : (i j : ℕ) → i < j → j < lim → fresh i ≢ fresh j
   pub spare : (i : ℕ) → c ≤ i → i < lim → occ (fresh i) (liveBlocks g b) ≡ 0
 
 -- an order of taking free blocks is one
 pub supply-order : (g : Layout) (b : List ℕ) (fresh : ℕ → ℕ) → Order g b fresh → Supply g b fresh 0 (length (free g b))
 supply-order g b fresh o = record {
-  nonzero = λ i l. lies i l .0;
-  below = λ i l. lies i l .1;
+  between = record { nonzero = λ i l. lies i l .0; below = λ i l. lies i l .1 };
   apart = o .apart;
   spare = λ i u l. lies i l .2;
 }
@@ -53,7 +51,7 @@ pub lowest-first : (g : Layout) (b : List ℕ) (k n : ℕ) → 0 < k → occ k (
 unfolding lowest
 lowest-first g b k n pos = occ-first (free g b) k n pos
 
-module _ (g : Layout) (b : List ℕ) (fresh : ℕ → ℕ) (c lim : ℕ) (ok : Supply g b fresh c lim) where
+module _ {g : Layout} {b : List ℕ} {fresh : ℕ → ℕ} {c lim : ℕ} (ok : Supply g b fresh c lim) where
   -- a live block is none of them
   pub supply-live : (q m : ℕ) → c + m ≤ lim → 0 < occ q (liveBlocks g b) → used fresh q c m ≡ 0
   supply-live q m room live = used-none fresh q c m (λ i u v e. omega (arith, ok .spare i u (omega arith), subst (λ (x : ℕ). 0 < occ x (liveBlocks g b)) e live))
@@ -70,7 +68,7 @@ module _ (g : Layout) (b : List ℕ) (fresh : ℕ → ℕ) (c lim : ℕ) (ok : S
   unfolding hidden
   stored-hidden fit ps room = all-map (λ s. FreeBlock g b (s .at / g .words)) (λ s. T (hidden g b s)) (λ s k. rw (free-member g b (s .at / g .words) k) tt) (stored (g .words) fresh ps c)
       (stored-blocks (g .words) fresh (λ x. FreeBlock g b (x / g .words)) ps c
-      (λ i j u v l. rw (address-block (g .words) (fresh i) j l) (ok .nonzero i (omega arith), ok .below i (omega arith), ok .spare i u (omega arith))))
+      (λ i j u v l. rw (address-block (g .words) (fresh i) j l) (ok .between .nonzero i (omega arith), ok .between .below i (omega arith), ok .spare i u (omega arith))))
 
   -- and go to different words
   pub stored-apart : (ps : List Page) → c + length ps ≤ lim → (x : ℕ) → occ x (addresses (stored (g .words) fresh ps c)) ≤ 1

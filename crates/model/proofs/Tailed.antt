@@ -25,7 +25,7 @@ use Rattle.model.proofs.Agree.{agree, byteAt-null, byteAt-past, byteAt-
 use Rattle.model.proofs.Splice.{Small, Cover, splice-in, splice-left, splice-right, length-part, getD-part, small-part, inside, cover-child, choose-pos, part-fits}
 use Rattle.model.proofs.Paths.{need-none}
 use Rattle.model.proofs.Changed.{Changed, recount, kept, node}
-use Rattle.model.proofs.Built.{held, used, used-add, length-build-null, held-joined, page-byte, build-null-changed}
+use Rattle.model.proofs.Built.{Between, held, used, used-add, length-build-null, held-joined, page-byte, build-null-changed}
 
 -- ---- zeros
 
@@ -301,7 +301,7 @@ module _ (W : ℕ) (pos : 0 < W) (b b′ : List ℕ) (top : ℕ) (hook taken : �
 abbrev tailHook : ℕ → (ℕ → ℕ) → ℕ → ℕ → ℕ → ℕ
 tailHook W fresh h l c = freshPointer W fresh h 0 l c
 
-module _ (W : ℕ) (pos : 0 < W) (b b′ : List ℕ) (fresh : ℕ → ℕ) (lim : ℕ) (nonzero : (i : ℕ) → i < lim → 0 < fresh i) (top : ℕ) (below : (i : ℕ) → i < lim → fresh i < top) where
+module _ (W : ℕ) (pos : 0 < W) (b b′ : List ℕ) {fresh : ℕ → ℕ} {lim top : ℕ} (within : Between fresh lim top) where
   tail-hooks : Hooks W (tailHook W fresh) (used fresh)
   unfolding freshPointer used sum
   tail-hooks = record { low = λ h l c. mul-mod-right W _; adds = λ q c m n. sym (used-add fresh q c m n); none = λ q c. refl }
@@ -310,7 +310,7 @@ module _ (W : ℕ) (pos : 0 < W) (b b′ : List ℕ) (fresh : ℕ → ℕ) (lim 
       → HookShows W (tailHook W fresh) (used fresh) b b′ top h new c
   unfolding freshPointer
   tail-hook-shows h new c small room g = λ m some fits cover. rw (mul-div-cancel-left _ pos)
-      (build-null-changed W pos b fresh b′ lim nonzero top below h 0 new c m some room small g (omega arith) (λ i u v w. cover i u v w .1))
+      (build-null-changed W pos b fresh b′ within h 0 new c m some room small g (omega arith) (λ i u v w. cover i u v w .1))
 
   tail-hooks-show : (h k n : ℕ) (new : List ℕ) (c : ℕ) → Small new → c + tailNeed W h n (length new) ≤ lim → held W fresh b′ (tailPages W b fresh h k n new c) c
       → HooksShow W (tailHook W fresh) (used fresh) b b′ top h n new c

@@ -11,9 +11,9 @@ use borrow.Author.Tests.{le-leb, lt-leb, eq-eqb, ne-eqb, eqb-true}
 use Rattle.model.specs.declared.WalkEnd.the-variants.{Block}
 use Rattle.model.specs.declared.Inode.{Inode}
 use Rattle.model.specs.Lists.{tabulate, sum, occ}
-use Rattle.model.specs.Layout.{Layout, Fits, files}
-use Rattle.model.specs.Tree.{live, span, least}
-use Rattle.model.specs.Board.{greatest, leaf, rootAddress, sizeAddress, root, size, inodeOf, walkTo, contents, liveBlocks, accepted}
+use Rattle.model.specs.Layout.{Layout, Fits}
+use Rattle.model.specs.Tree.{live, least}
+use Rattle.model.specs.Board.{leaf, rootAddress, sizeAddress, root, size, inodeOf, walkTo, contents, liveBlocks}
 use Rattle.model.specs.Store.{Store, store}
 use Rattle.model.specs.Plan.{Plan, plan, Step, step}
 use Rattle.model.specs.Fresh.{Page, stored, freshPointer}
@@ -24,16 +24,17 @@ use Rattle.model.specs.Cut.{overwritten}
 use Rattle.model.proofs.Cases.{split, decide, true-left, true-right}
 use Rattle.model.proofs.Perform.{All, length-tabulate}
 use Rattle.model.proofs.Altering.{spliced-write, spliced-cut, spliced-zeros}
-use Rattle.model.proofs.Splice.{Small}
 use Rattle.model.proofs.Built.{used, length-build-null}
 use Rattle.model.proofs.Tailed.{length-tail}
 use Rattle.model.proofs.Steps.{committed}
 use Rattle.model.proofs.Descent.{hole≢block}
 use Rattle.model.proofs.Shown.{words-pos, rootByte, contents-bytes, leaf-of, leaf-live, root-block, size-block}
 use Rattle.model.proofs.Commits.{spliced}
+use Rattle.model.proofs.Accepting.{FileOn}
 use Rattle.model.proofs.Supplied.{Supply}
 use Rattle.model.proofs.GoodSteps.{GoodStep, GoodTurn}
 use Rattle.model.proofs.Taking.{Takes, in-place-live}
+use Rattle.model.proofs.Writing.{Writing, Spanned}
 use Rattle.model.proofs.InsideWays.{single-live, single-good, inside-live, inside-good}
 use Rattle.model.proofs.SizeWays.{tail-good, empty-tail-good}
 use Rattle.model.proofs.LeafWay.{leaf-takes, leaf-good}
@@ -79,9 +80,10 @@ pub record OneStep (g : Layout) (b : List ℕ) (f : ℕ) (fresh : ℕ → ℕ) (
   pub takes : Takes g b fresh c (p .taken) only
   pub lives : (q : ℕ) → occ q (liveBlocks g (committed b only)) + occ q given ≡ occ q (liveBlocks g b) + used fresh q c (p .taken - c)
 
-module _ (g : Layout) (fit : Fits g) (b : List ℕ) (t : T (accepted g b)) (f : ℕ) (f-lt : f < files g) (o : ℕ) (new : List ℕ) (some : 0 < length new) (small : Small new)
-    (most : o + length new ≤ greatest g) (reach : 0 < size g b f → o + length new ≤ span (g .words) (root g b f % g .words))
-    (fresh : ℕ → ℕ) (c lim : ℕ) (supply : Supply g b fresh c lim) where
+module _ {g : Layout} {b : List ℕ} {f o : ℕ} {new : List ℕ} (w : Writing g b f o new) (some : 0 < length new) (reach : Spanned g b f (o + length new))
+    {fresh : ℕ → ℕ} {c lim : ℕ} (supply : Supply g b fresh c lim) where
+  open FileOn (w .on) using (fit, file)
+
   abbrev wanted : List ℕ
   wanted = overwritten o new (contents g b f)
 
@@ -92,10 +94,10 @@ module _ (g : Layout) (fit : Fits g) (b : List ℕ) (t : T (accepted g b)) (f : 
   Good p given = p .taken ≤ lim → OneStep g b f fresh c wanted given p
 
   -- one that leaves m bytes
-  one-good : (s : Step) (m c′ : ℕ) (extra gone : ℕ → ℕ) (given : List ℕ) → m ≡ max (size g b f) (o + length new) → GoodTurn g b f s (spliced g b f o new m) extra gone → Takes g b fresh c c′ s
+  one-good : {s : Step} {m c′ : ℕ} {extra gone : ℕ → ℕ} {given : List ℕ} → GoodTurn g b f s (spliced g b f o new m) extra gone → m ≡ max (size g b f) (o + length new) → Takes g b fresh c c′ s
       → ((q : ℕ) → (extra q ≡ used fresh q c (c′ - c)) × (gone q ≡ occ q given)) → OneStep g b f fresh c wanted given (plan (s ∷ []) c′)
   unfolding plan
-  one-good s m c′ extra gone given e y k counts = record {
+  one-good {s} {m} y e k counts = record {
     only = s;
     steps-are = refl;
     good = rw (spliced-writes g fit b f o new some m e) at (y .good);
@@ -109,14 +111,14 @@ module _ (g : Layout) (fit : Fits g) (b : List ℕ) (t : T (accepted g b)) (f : 
 
   -- a word of the file's inode lies in a live block
   inode-live-at : (a : ℕ) → a / g .words ≡ leaf g b (f / g .inodes) → 0 < occ (a / g .words) (liveBlocks g b)
-  inode-live-at a e = rw e (leaf-live g b (f / g .inodes) (leaf-of g fit f f-lt))
+  inode-live-at a e = rw e (leaf-live g b (f / g .inodes) (leaf-of g fit f file))
 
   -- 3: *e ≤ s, all bytes fall in one word and its data block exists*
   single-parts : (K : ℕ) → singleBlock g b f o (o + length new) ≡ Block K → (o + length new ≤ size g b f) × (o / 8 ≡ (o + length new - 1) / 8) × (walkTo g b f o ≡ Block K)
   unfolding singleBlock
   single-parts K e = elim (split (o + length new) (size g b f)) [
     | inl l ↦ elim (decide (o / 8) ((o + length new - 1) / 8)) [
-      | inl w ↦ (l, w, rw (le-leb (o + length new) (size g b f) l, eq-eqb (o / 8) ((o + length new - 1) / 8) w) at e)
+      | inl same ↦ (l, same, rw (le-leb (o + length new) (size g b f) l, eq-eqb (o / 8) ((o + length new - 1) / 8) same) at e)
       | inr d ↦ absurd (hole≢block K (rw (le-leb (o + length new) (size g b f) l, ne-eqb (o / 8) ((o + length new - 1) / 8) d) at e))
     ]
     | inr m ↦ absurd (hole≢block K (rw (lt-leb (o + length new) (size g b f) m) at e))
@@ -127,13 +129,13 @@ module _ (g : Layout) (fit : Fits g) (b : List ℕ) (t : T (accepted g b)) (f : 
   single-way first K e room =
       let p = single-parts K e in
       let l : o + length new ≤ size g b f = p .0 in
-      one-good _ (size g b f) 0 (λ q. 0) (λ q. 0) [] (omega arith) (single-good g fit b t f f-lt o new some small l (reach (omega arith)) K (p .2) (p .1)) (record {
+      one-good (single-good w some l (reach (omega arith)) K (p .2) (p .1)) (omega arith) (record {
         pages = [];
         others = [];
         is = refl;
         count = omega arith;
         others-live = tt;
-        commit-live = single-live g fit b t f f-lt o new some small l (reach (omega arith)) K (p .2) (p .1);
+        commit-live = single-live w some l (reach (omega arith)) K (p .2) (p .1);
       }) (λ q. let z : 0 - c ≡ 0 = omega arith in (rw z, refl))
 
   -- 4
@@ -167,23 +169,20 @@ module _ (g : Layout) (fit : Fits g) (b : List ℕ) (t : T (accepted g b)) (f : 
 
   empty-tail-way : size g b f ≡ 0 → Good (emptyTail g fresh b inode o new c) []
   unfolding emptyTailTo emptyTail plan step store All occ sizeAddress
-  empty-tail-way z room = one-good _ (o + length new) _ _ (λ q. 0) [] (omega arith)
-      (empty-tail-good g fit b t f f-lt new some small fresh c lim supply z o most room)
+  empty-tail-way z room = one-good (empty-tail-good (w .on) w some z supply room) (omega arith)
       (record { pages = _; others = _; is = refl; count = refl; others-live = (inode-live-at (rootAddress g b f) (root-block g fit b f), tt); commit-live = inode-live-at (sizeAddress g b f) (size-block g fit b f) })
       (λ q. (ap (used fresh q c) (sym (length-build-null (g .words) (words-pos g fit) b fresh (least (g .words) (g .height) (o + length new)) 0 o new c)) ∙ used-more q _, refl))
 
   live-tail-way : 0 < size g b f → o ≡ size g b f → T (atBlock (walkLive (g .words) b (root g b f % g .words) (root g b f / g .words) (size g b f))) → Good (tailOf (size g b f)) []
   unfolding plan step store occ
-  live-tail-way l e path room = one-good _ (size g b f + length new) _ _ (λ q. 0) [] (omega arith)
-      (rw e (tail-good g fit b t f f-lt new some small fresh c lim supply l path (rw (← e) (reach l)) (rw (← e) most) room))
-      (record {
-        pages = _;
-        others = _;
-        is = refl;
-        count = refl;
-        others-live = in-place-live g b f f-lt (λ h l i. freshPointer (g .words) fresh h 0 l i) new c l;
-        commit-live = inode-live-at (sizeAddress g b f) (size-block g fit b f);
-      }) (λ q. (ap (used fresh q c) (sym (length-tail (g .words) (words-pos g fit) b fresh (root g b f % g .words) (root g b f / g .words) (size g b f) new c)) ∙ used-more q _, refl))
+  live-tail-way l e path room = one-good {m = size g b f + length new} (rw e (tail-good (w .on) (rw e at w) l path (rw e at (reach l)) supply room)) (omega arith) (record {
+    pages = _;
+    others = _;
+    is = refl;
+    count = refl;
+    others-live = in-place-live g b f file (λ h l i. freshPointer (g .words) fresh h 0 l i) new c l;
+    commit-live = inode-live-at (sizeAddress g b f) (size-block g fit b f);
+  }) (λ q. (ap (used fresh q c) (sym (length-tail (g .words) (words-pos g fit) b fresh (root g b f % g .words) (root g b f / g .words) (size g b f) new c)) ∙ used-more q _, refl))
 
   tail-way : isTail g b inode o ≡ true → Good (tail g fresh b inode (size g b f) o new c) []
   tail-way e = elim (split (size g b f) 0) [
@@ -194,20 +193,20 @@ module _ (g : Layout) (fit : Fits g) (b : List ℕ) (t : T (accepted g b)) (f : 
   -- 5
   inside-way : o + length new ≤ size g b f → Good (shadowInside g fresh b inode o new c) (insideBlocks (g .words) b (root g b f % g .words) (root g b f / g .words) (size g b f) o (length new))
   unfolding shadowInside plan step store All
-  inside-way l room = one-good _ (size g b f) _ _ _ _ (omega arith) (inside-good g fit b t f f-lt o new some small l (reach (omega arith)) fresh c lim supply room) (record {
+  inside-way l room = one-good (inside-good w some l (reach (omega arith)) supply room) (omega arith) (record {
     pages = _;
     others = [];
     is = sym (append-nil _);
     count = refl;
     others-live = tt;
-    commit-live = inside-live g fit b t f f-lt o new some small l (reach (omega arith)) fresh c lim supply room;
+    commit-live = inside-live w some l (reach (omega arith)) supply room;
   }) (λ q. (used-more q _, refl))
 
   -- 6
   leaf-way : 0 < size g b f → size g b f < o + length new → Good (shadowWithLength g fresh b inode o new c)
       (rootAddress g b f / g .words ∷ pathBlocks (g .words) b (root g b f % g .words) (root g b f / g .words) (size g b f) o (length new))
   unfolding shadowWithLength plan
-  leaf-way l m room = one-good _ (max (size g b f) (o + length new)) _ _ _ _ refl (leaf-good g fit b t f f-lt o new some small l m (reach l) most fresh c lim supply room) (leaf-takes g fresh b f o new c fit f-lt)
+  leaf-way l m room = one-good (leaf-good w some l m (reach l) supply room) refl (leaf-takes g fresh b f o new c (w .on))
       (λ q. (ap (used fresh q c) (omega arith), ap (λ (x : ℕ). occ q (x ∷ pathBlocks (g .words) b (root g b f % g .words) (root g b f / g .words) (size g b f) o (length new))) (sym (root-block g fit b f))))
 
   -- whichever it is
