@@ -11,7 +11,7 @@ use lib.Dec.{T, leb, ltb, eqb, leb→le, ltb→lt, lt→ltb, eqb→eq}
 use Rattle.model.specs.Lists.{every, distinct, occ}
 use Rattle.model.specs.Layout.{Layout, Fits, files}
 use Rattle.model.specs.Tree.{sound}
-use Rattle.model.specs.Board.{rootSound, trailerWord, greatest, blockCount, trailer, inodeBlock, inodePointer, leaf, root, size, liveBlocks, inRange, wordCountSound, trailerSound, leafSound, fileSound, treesSound, accepted}
+use Rattle.model.specs.Board.{rootSound, trailerWord, greatest, blockCount, trailer, inodeBlock, inodePointer, leaf, rootHeight, rootBlock, root, size, liveBlocks, inRange, wordCountSound, trailerSound, leafSound, fileSound, treesSound, accepted}
 use Rattle.model.proofs.Cases.{split, and-left, and-right, and-both, every-of, every-all}
 use Rattle.model.proofs.Counting.{distinct-occ, occ-distinct}
 use Rattle.model.proofs.Perform.{block-on}
@@ -105,9 +105,9 @@ module _ (g : Layout) (b : List ℕ) where
       (leb→le (size g b f) (greatest g) (and-left u v t), and-right u v t)
 
   -- the tree of a sound file is sound
-  pub file-tree : (f : ℕ) → T (fileSound g b f) → T (sound (g .words) b (blockCount g b - 1) (root g b f % g .words) (root g b f / g .words) (size g b f))
+  pub file-tree : (f : ℕ) → T (fileSound g b f) → T (sound (g .words) b (blockCount g b - 1) (rootHeight g b f) (rootBlock g b f) (size g b f))
   file-tree f t = elim (split (size g b f) 0) [
-    | inl z ↦ let e : size g b f ≡ 0 = omega arith in rw (e, sound-dead (g .words) b (blockCount g b - 1) (root g b f % g .words) (root g b f / g .words)) tt
+    | inl z ↦ let e : size g b f ≡ 0 = omega arith in rw (e, sound-dead (g .words) b (blockCount g b - 1) (rootHeight g b f) (rootBlock g b f)) tt
     | inr live ↦ root-sound-parts (g .height) (blockCount g b - 1) (root g b f) (size g b f) live (file-parts f t .1) .1
   ]
 
@@ -138,8 +138,8 @@ pub record Facts (g : Layout) (b : List ℕ) : Type 0 where
   pub inode : Ranged g b (inodeBlock g b)
   pub leaf-in : (l : ℕ) → l < g .leaves → Ranged g b (leaf g b l)
   pub most : (f : ℕ) → f < files g → size g b f ≤ greatest g
-  pub low : (f : ℕ) → f < files g → 0 < size g b f → root g b f % g .words ≤ g .height
-  pub tree : (f : ℕ) → f < files g → T (sound (g .words) b (blockCount g b - 1) (root g b f % g .words) (root g b f / g .words) (size g b f))
+  pub low : (f : ℕ) → f < files g → 0 < size g b f → rootHeight g b f ≤ g .height
+  pub tree : (f : ℕ) → f < files g → T (sound (g .words) b (blockCount g b - 1) (rootHeight g b f) (rootBlock g b f) (size g b f))
   pub once : (q : ℕ) → occ q (liveBlocks g b) ≤ 1
 
 module _ (g : Layout) (fit : Fits g) (b : List ℕ) where

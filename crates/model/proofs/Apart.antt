@@ -11,7 +11,7 @@ use lib.Seq.{getD-set-same, getD-set-other}
 use Rattle.model.specs.Lists.{one, occ}
 use Rattle.model.specs.Layout.{Layout, Fits, files}
 use Rattle.model.specs.Tree.{cell}
-use Rattle.model.specs.Board.{blockCount, trailer, inodeBlock, inodePointer, leaf, rootAddress, sizeAddress, root, size, rootBlocks, fileBlocks, liveBlocks}
+use Rattle.model.specs.Board.{blockCount, trailer, inodeBlock, inodePointer, leaf, rootAddress, sizeAddress, rootHeight, rootBlock, root, size, rootBlocks, fileBlocks, liveBlocks}
 use Rattle.model.proofs.Cases.{decide}
 use Rattle.model.proofs.Sums.{sum-at, sum-two}
 use Rattle.model.proofs.Counting.{one-same, one-apart}
@@ -173,11 +173,11 @@ module _ {g : Layout} {b : List ℕ} {f : ℕ} (on : FileOn g b f) where
     spot-others = record {
       sizes = λ i u d. spot-size i u (spot-not-inode-of a s i 1 u d (omega arith));
       roots = λ i u d z. spot-root i u (λ x. spot-not-inode-of a s i 0 u d (omega arith) (add-zero (rootAddress g b i) ∙ x));
-      trees = λ i u d. agree-away (g .words) pos b a v (root g b i % g .words) (root g b i / g .words) (size g b i) (spot-not-file a s i u d);
+      trees = λ i u d. agree-away (g .words) pos b a v (rootHeight g b i) (rootBlock g b i) (size g b i) (spot-not-file a s i u d);
     }
 
     -- if it is not seen in file f either, it is not seen at all
-    pub spot-unseen : a ≢ sizeAddress g b f → (0 < size g b f → a ≢ rootAddress g b f) → agree (g .words) b b₂ (root g b f % g .words) (root g b f / g .words) (size g b f) → Same g b b₂
+    pub spot-unseen : a ≢ sizeAddress g b f → (0 < size g b f → a ≢ rootAddress g b f) → agree (g .words) b b₂ (rootHeight g b f) (rootBlock g b f) (size g b f) → Same g b b₂
     spot-unseen not-size not-root tree = record {
       lengths = len;
       trailers = spot-trailer;

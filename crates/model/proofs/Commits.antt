@@ -10,7 +10,7 @@ use lib.Dec.{T, leb, le→leb}
 use Rattle.model.specs.Lists.{tabulate, sum, one, occ}
 use Rattle.model.specs.Layout.{Layout, Fits, files}
 use Rattle.model.specs.Tree.{seen, span, blocks, sound}
-use Rattle.model.specs.Board.{rootBlocks, rootSound, greatest, blockCount, inodeBlock, leaf, root, size, walkTo, contents, fileBlocks, liveBlocks, trailerSound, leafSound, fileSound, accepted}
+use Rattle.model.specs.Board.{rootBlocks, rootSound, greatest, blockCount, inodeBlock, leaf, rootHeight, rootBlock, root, size, walkTo, contents, fileBlocks, liveBlocks, trailerSound, leafSound, fileSound, accepted}
 use Rattle.model.specs.Fresh.{splice}
 use Rattle.model.proofs.Cases.{split, decide, and-both, tabulate-cong}
 use Rattle.model.proofs.Sums.{sum-cong, sum-add, only, only-same, only-other, sum-only, sum-only-at}
@@ -75,14 +75,14 @@ spliced g b f o new m = tabulate m (λ i. splice o new (seen (size g b f - i) (r
 
 -- (h, k) is the tree of file f, where its size is above 0
 abbrev pub Had : (g : Layout) (b : List ℕ) (f h k : ℕ) → Type 0
-Had g b f h k = 0 < size g b f → (h ≡ root g b f % g .words) × (k ≡ root g b f / g .words)
+Had g b f h k = 0 < size g b f → (h ≡ rootHeight g b f) × (k ≡ rootBlock g b f)
 
 module _ (g : Layout) (fit : Fits g) (b : List ℕ) (f : ℕ) where
   pub had-blocks : (h k : ℕ) → Had g b f h k → blocks (g .words) b h k (size g b f) ≡ fileBlocks g b f
   unfolding fileBlocks rootBlocks
   had-blocks h k old = elim (split (size g b f) 0) [
     | inl z ↦ let z′ : size g b f ≡ 0 = omega arith in
-        blocks-none (g .words) (words-pos g fit) b h k (size g b f) z′ ∙ sym (blocks-none (g .words) (words-pos g fit) b (root g b f % g .words) (root g b f / g .words) (size g b f) z′)
+        blocks-none (g .words) (words-pos g fit) b h k (size g b f) z′ ∙ sym (blocks-none (g .words) (words-pos g fit) b (rootHeight g b f) (rootBlock g b f) (size g b f) z′)
     | inr z ↦ rw (old z .0, old z .1)
   ]
 
@@ -96,13 +96,13 @@ module _ (g : Layout) (fit : Fits g) (b : List ℕ) (f : ℕ) where
 -- a file that is written: m bytes, `new` at o, in a tree of the height that it had
 pub record Written (g : Layout) (b b₂ : List ℕ) (f h k o m : ℕ) (new : List ℕ) (extra gone : ℕ → ℕ) : Type 0 where
   pub old : Had g b f h k
-  pub height : root g b₂ f % g .words ≡ h
+  pub height : rootHeight g b₂ f ≡ h
   pub now : size g b₂ f ≡ m
   pub low : h ≤ g .height
   pub most : m ≤ greatest g
   -- past the span nothing is seen
   pub past : (i : ℕ) → span (g .words) h ≤ i → i < m → splice o new 0 i ≡ 0
-  pub change : Changed (g .words) b b₂ (blockCount g b - 1) h k (root g b₂ f / g .words) (size g b f) m o new extra gone
+  pub change : Changed (g .words) b b₂ (blockCount g b - 1) h k (rootBlock g b₂ f) (size g b f) m o new extra gone
 
 root-sound-of : (g : Layout) (b₂ : List ℕ) (height top r n : ℕ) → r % g .words ≤ height → T (sound (g .words) b₂ top (r % g .words) (r / g .words) n) → T (rootSound (g .words) b₂ height top r n)
 unfolding rootSound
@@ -121,7 +121,7 @@ module _ {g : Layout} (fit : Fits g) {b b₂ : List ℕ} (len : length b ≡ len
             ] in
             root-byte-past (g .words) b₂ (root g b₂ f) m i (rw (w .height) past) ∙ sym (ap (λ (x : ℕ). splice o new x i) none ∙ w .past i past l)
         | inr l′ ↦
-            let now : byteAt (g .words) b₂ (root g b₂ f % g .words) (root g b₂ f / g .words) m i ≡ splice o new (byteAt (g .words) b h k n i) i = rw (w .height) (w .change .bytes i l′ l) in
+            let now : byteAt (g .words) b₂ (rootHeight g b₂ f) (rootBlock g b₂ f) m i ≡ splice o new (byteAt (g .words) b h k n i) i = rw (w .height) (w .change .bytes i l′ l) in
             root-byte-in (g .words) b₂ (root g b₂ f) m i (rw (w .height) l′) ∙ now ∙ ap (λ (x : ℕ). splice o new x i) (had-byte g fit b f h k i (w .old) l′)
       ]
 
@@ -139,7 +139,7 @@ module _ (g : Layout) (fit : Fits g) (b b₂ : List ℕ) (len : length b ≡ len
   pos = words-pos g fit
 
   -- a file that is not touched
-  pub kept-commit : size g b f ≡ size g b₂ f → (0 < size g b f → root g b f ≡ root g b₂ f) → agree (g .words) b b₂ (root g b f % g .words) (root g b f / g .words) (size g b f)
+  pub kept-commit : size g b f ≡ size g b₂ f → (0 < size g b f → root g b f ≡ root g b₂ f) → agree (g .words) b b₂ (rootHeight g b f) (rootBlock g b f) (size g b f)
       → T (fileSound g b f) → FileCommit g b b₂ f (contents g b f) (λ q. 0) (λ q. 0)
   unfolding fileSound fileBlocks
   kept-commit sizes roots tree t =
@@ -152,8 +152,8 @@ module _ (g : Layout) (fit : Fits g) (b b₂ : List ℕ) (len : length b ≡ len
       }
 
   -- a file whose tree is grown
-  pub grown-commit : (h′ : ℕ) (extra : ℕ → ℕ) → 0 < size g b f → size g b f ≡ size g b₂ f → root g b₂ f % g .words ≡ h′ → h′ ≤ g .height
-      → Grown (g .words) b b₂ (blockCount g b - 1) (root g b f % g .words) (root g b f / g .words) h′ (root g b₂ f / g .words) (size g b f) extra
+  pub grown-commit : (h′ : ℕ) (extra : ℕ → ℕ) → 0 < size g b f → size g b f ≡ size g b₂ f → rootHeight g b₂ f ≡ h′ → h′ ≤ g .height
+      → Grown (g .words) b b₂ (blockCount g b - 1) (rootHeight g b f) (rootBlock g b f) h′ (rootBlock g b₂ f) (size g b f) extra
       → T (fileSound g b f) → FileCommit g b b₂ f (contents g b f) extra (λ q. 0)
   unfolding fileSound fileBlocks rootBlocks rootByte
   grown-commit h′ extra live sizes height low w t =
@@ -173,7 +173,7 @@ module _ (g : Layout) (fit : Fits g) (b b₂ : List ℕ) (len : length b ≡ len
 pub record Others (g : Layout) (b b₂ : List ℕ) (f : ℕ) : Type 0 where
   pub sizes : (i : ℕ) → i < files g → i ≢ f → size g b i ≡ size g b₂ i
   pub roots : (i : ℕ) → i < files g → i ≢ f → 0 < size g b i → root g b i ≡ root g b₂ i
-  pub trees : (i : ℕ) → i < files g → i ≢ f → agree (g .words) b b₂ (root g b i % g .words) (root g b i / g .words) (size g b i)
+  pub trees : (i : ℕ) → i < files g → i ≢ f → agree (g .words) b b₂ (rootHeight g b i) (rootBlock g b i) (size g b i)
 
 -- on a board that shows the same as b
 pub others-from : {g : Layout} → 0 < g .words → {b c b₂ : List ℕ} {f : ℕ} → Same g b c → Others g c b₂ f → Others g b b₂ f
@@ -181,8 +181,8 @@ others-from {g} pos {b} {c} {b₂} s o = record {
   sizes = λ i u d. s .sizes i u ∙ o .sizes i u d;
   roots = λ i u d live. s .roots i u live ∙ o .roots i u d (rw (← (s .sizes i u)) live);
   trees = λ i u d. elim (split (size g b i) 0) [
-    | inl z ↦ agree-none (g .words) pos b b₂ (root g b i % g .words) (root g b i / g .words) (size g b i) (omega arith)
-    | inr live ↦ agree-trans (g .words) pos b c b₂ (root g b i % g .words) (root g b i / g .words) (size g b i) (s .trees i u) (rw (s .roots i u live, s .sizes i u) (o .trees i u d))
+    | inl z ↦ agree-none (g .words) pos b b₂ (rootHeight g b i) (rootBlock g b i) (size g b i) (omega arith)
+    | inr live ↦ agree-trans (g .words) pos b c b₂ (rootHeight g b i) (rootBlock g b i) (size g b i) (s .trees i u) (rw (s .roots i u live, s .sizes i u) (o .trees i u d))
   ];
 }
 

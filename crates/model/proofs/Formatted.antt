@@ -13,7 +13,7 @@ use borrow.Author.Tests.{le-leb, lt-ltb}
 use Rattle.model.specs.Lists.{tabulate, every, concat, occ}
 use Rattle.model.specs.Layout.{Layout, Fits, house, files}
 use Rattle.model.specs.Tree.{cell}
-use Rattle.model.specs.Board.{rootBlocks, rootSound, trailerWord, greatest, blockCount, trailer, inodeBlock, inodePointer, leaf, rootAddress, sizeAddress, root, size, contents, fileBlocks, liveBlocks, inRange, wordCountSound, trailerSound, leafSound, fileSound}
+use Rattle.model.specs.Board.{rootBlocks, rootSound, trailerWord, greatest, blockCount, trailer, inodeBlock, inodePointer, leaf, rootAddress, sizeAddress, rootHeight, rootBlock, size, contents, fileBlocks, liveBlocks, inRange, wordCountSound, trailerSound, leafSound, fileSound}
 use Rattle.model.specs.Store.{Store, store, barrier, performed, stores, fenced}
 use Rattle.model.specs.Plan.{plan, step, stepEpochs, planEpochs, pairs}
 use Rattle.model.specs.Fresh.{Page, stored}
@@ -87,7 +87,7 @@ module _ (g : Layout) (fit : Fits g) (b b′ : List ℕ) (ok : T (wordCountSound
 
   no-blocks : (f : ℕ) → f < files g → fileBlocks g b′ f ≡ []
   unfolding fileBlocks rootBlocks
-  no-blocks f h = rw (size-zero f h) (blocks-dead (g .words) b′ (root g b′ f % g .words) (root g b′ f / g .words))
+  no-blocks f h = rw (size-zero f h) (blocks-dead (g .words) b′ (rootHeight g b′ f) (rootBlock g b′ f))
 
   pub live-are : liveBlocks g b′ ≡ 1 ∷ (tabulate (g .leaves) (λ l. 2 + l) ++ [])
   unfolding liveBlocks

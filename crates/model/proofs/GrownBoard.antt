@@ -4,7 +4,7 @@ use mathlib.Core.Path.{_≡_, refl, sym, _∙_}
 use mathlib.Core.Logic.{inl, inr}
 use mathlib.Core.Bool.{Bool, false, _&&_}
 use mathlib.Core.List.{List, []}
-use Prim.Native.Nat.{ℕ, zero, suc, _+_, _-_, _/_, _%_, _≤_, _<_}
+use Prim.Native.Nat.{ℕ, zero, suc, _+_, _-_, _/_, _≤_, _<_}
 use native.Mathlib.Omega.{arith}
 use native.Mathlib.Nat.{le-div-iff-mul-le}
 use lib.ListN.{length}
@@ -14,7 +14,7 @@ use Rattle.model.specs.declared.WalkEnd.the-variants.{Hole}
 use Rattle.model.specs.Lists.{concat}
 use Rattle.model.specs.Layout.{Layout}
 use Rattle.model.specs.Tree.{span, least, walk}
-use Rattle.model.specs.Board.{rootWalk, greatest, root, size, inodeOf, walkTo}
+use Rattle.model.specs.Board.{rootWalk, greatest, rootHeight, rootBlock, size, inodeOf, walkTo}
 use Rattle.model.specs.Store.{performed}
 use Rattle.model.specs.Plan.{plan, planEpochs}
 use Rattle.model.specs.Fresh.{Page}
@@ -50,11 +50,11 @@ module _ (g : Layout) (b : List ℕ) (f o e : ℕ) where
       elim (either (within && word)) [ inl u ↦ rw (u, hole (eqb-true (o / 8) ((e - 1) / 8) (true-right within word u))) | inr u ↦ rw u ]
 
   -- so none that ends past the tree's span
-  pub single-past : o < e → span (g .words) (root g b f % g .words) < e → singleBlock g b f o e ≡ Hole
+  pub single-past : o < e → span (g .words) (rootHeight g b f) < e → singleBlock g b f o e ≡ Hole
   unfolding walkTo rootWalk
   single-past some more =
-      let s : ℕ = span (g .words) (root g b f % g .words) in
-      single-hole (λ word. rw (le-ltb o s (word-past (g .words) (root g b f % g .words) o e some word more)))
+      let s : ℕ = span (g .words) (rootHeight g b f) in
+      single-hole (λ word. rw (le-ltb o s (word-past (g .words) (rootHeight g b f) o e some word more)))
 
 -- ---- The top of the grown tree
 
@@ -102,9 +102,9 @@ module _ {g : Layout} {b : List ℕ} {f e : ℕ} (w : Growing g b f e) {fresh : 
   new-hole word =
       let pos : 0 < W = words-pos g (w .on .fit) in
       let reaches : e ≤ span W h = least-reaches W pos (g .height) e (w .most) in
-      let higher : root g b f % W < h = elim (split h (root g b f % W)) [ inl u ↦ absurd (omega (arith, w .more, span-mono W pos h (root g b f % W) u)) | inr u ↦ u ] in
+      let higher : rootHeight g b f < h = elim (split h (rootHeight g b f)) [ inl u ↦ absurd (omega (arith, w .more, span-mono W pos h (rootHeight g b f) u)) | inr u ↦ u ] in
       rw (growth-height w supply room, growth-top w supply room, lt-ltb o (span W h) (omega (arith, some, reaches)))
-      (top-past W pos c fresh lim (supply .between .nonzero) h (root g b f / W) (h - root g b f % W) (size g c f) o (omega arith) room (growth-held w supply room)
+      (top-past W pos c fresh lim (supply .between .nonzero) h (rootBlock g b f) (h - rootHeight g b f) (size g c f) o (omega arith) room (growth-held w supply room)
       (λ x u. word-past W x o e some word (least-least W pos (g .height) e x u)) (omega arith) (omega (arith, some, reaches)))
 
   larger-board : GrownBoard g fresh b (performed b (concat (planEpochs (growthTo g fresh b f h .steps)))) f o e

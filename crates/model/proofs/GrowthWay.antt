@@ -12,7 +12,7 @@ use borrow.Author.Tests.{lt-ltb, le-ltb}
 use Rattle.model.specs.Lists.{concat, occ}
 use Rattle.model.specs.Layout.{Layout, files}
 use Rattle.model.specs.Tree.{live, span, least}
-use Rattle.model.specs.Board.{rootWalk, rootBlocks, greatest, blockCount, inodeBlock, rootAddress, sizeAddress, root, size, walkTo, contents, fileBlocks, liveBlocks}
+use Rattle.model.specs.Board.{rootWalk, rootBlocks, greatest, blockCount, inodeBlock, rootAddress, sizeAddress, rootHeight, rootBlock, root, size, walkTo, contents, fileBlocks, liveBlocks}
 use Rattle.model.specs.Store.{Store, store, performed}
 use Rattle.model.specs.Plan.{Step, step, plan, planEpochs}
 use Rattle.model.specs.Fresh.{Page, stored}
@@ -41,7 +41,7 @@ use Rattle.model.proofs.Writing.{Writing, Spanned, Growing}
 module _ (g : Layout) (fresh : ℕ → ℕ) (b : List ℕ) (f h : ℕ) where
   -- the pages of the levels
   abbrev pub growthPages : List Page
-  growthPages = levels (g .words) fresh (root g b f / g .words) (h - root g b f % g .words)
+  growthPages = levels (g .words) fresh (rootBlock g b f) (h - rootHeight g b f)
 
   -- growth to height h is one step
   abbrev pub growthStep : Step
@@ -54,7 +54,7 @@ module _ (g : Layout) (fresh : ℕ → ℕ) (b : List ℕ) (f h : ℕ) where
 
 -- *If s > 0 and e exceeds the span*, and only then
 pub growing-more : {g : Layout} {b : List ℕ} {f e : ℕ} → Growing g b f e → growing g b f e ≡ true
-growing-more {g} {b} {f} {e} w = rw (live-some (size g b f) (w .live), lt-ltb (span (g .words) (root g b f % g .words)) e (w .more))
+growing-more {g} {b} {f} {e} w = rw (live-some (size g b f) (w .live), lt-ltb (span (g .words) (rootHeight g b f)) e (w .more))
 
 module _ {g : Layout} {b : List ℕ} {f o : ℕ} {new : List ℕ} (w : Writing g b f o new) where
   abbrev e : ℕ
@@ -64,13 +64,13 @@ module _ {g : Layout} {b : List ℕ} {f o : ℕ} {new : List ℕ} (w : Writing g
   unfolding live
   growing-empty z = rw z
 
-  growing-spanned : e ≤ span (g .words) (root g b f % g .words) → growing g b f e ≡ false
-  growing-spanned l = rw (le-ltb (span (g .words) (root g b f % g .words)) e l, and-false)
+  growing-spanned : e ≤ span (g .words) (rootHeight g b f) → growing g b f e ≡ false
+  growing-spanned l = rw (le-ltb (span (g .words) (rootHeight g b f)) e l, and-false)
 
   pub growing-cases : ((growing g b f e ≡ false) × Spanned g b f e) ⊎ Growing g b f e
   growing-cases = elim (split (size g b f) 0) [
     | inl z ↦ inl (growing-empty (omega arith), λ l. absurd (omega arith))
-    | inr l ↦ elim (split e (span (g .words) (root g b f % g .words))) [
+    | inr l ↦ elim (split e (span (g .words) (rootHeight g b f))) [
       | inl u ↦ inl (growing-spanned u, λ z. u)
       | inr m ↦ inr (record { on = w .on; live = l; more = m; most = w .most })
     ]
@@ -107,9 +107,9 @@ module _ {g : Layout} {b : List ℕ} {f e : ℕ} (w : Growing g b f e) {fresh : 
   unfolding greatest
   reaches = least-reaches (g .words) pos (g .height) e (w .most)
 
-  higher : root g b f % g .words ≤ h
+  higher : rootHeight g b f ≤ h
   unfolding greatest
-  higher = least-above (g .words) pos (g .height) e (root g b f % g .words) (w .most) (w .more)
+  higher = least-above (g .words) pos (g .height) e (rootHeight g b f) (w .most) (w .more)
 
   low-enough : h ≤ g .height
   low-enough = least-within (g .words) pos (g .height) e
@@ -118,7 +118,7 @@ module _ {g : Layout} {b : List ℕ} {f e : ℕ} (w : Growing g b f e) {fresh : 
   ps = growthPages g fresh b f h
 
   abbrev top : ℕ
-  top = levelTop fresh (root g b f / g .words) (h - root g b f % g .words)
+  top = levelTop fresh (rootBlock g b f) (h - rootHeight g b f)
 
   module _ (room : growthTo g fresh b f h .taken ≤ lim) where
     fits : 0 + length ps ≤ lim
@@ -163,11 +163,11 @@ module _ {g : Layout} {b : List ℕ} {f e : ℕ} (w : Growing g b f e) {fresh : 
     unfolding done
     root-done = stored-root on₁ (rootAddress g b f) value commit-spot address-same
 
-    height-done : root g done f % g .words ≡ h
+    height-done : rootHeight g done f ≡ h
     unfolding value
     height-done = ap (λ (x : ℕ). x % g .words) root-done ∙ mul-add-mod-self-left (g .words) top h ∙ mod-eq-of-lt (omega (arith, fit .heights-fit, low-enough))
 
-    block-done : root g done f / g .words ≡ top
+    block-done : rootBlock g done f ≡ top
     unfolding value
     block-done = ap (λ (x : ℕ). x / g .words) root-done ∙ address-block (g .words) top h (omega (arith, fit .heights-fit, low-enough))
 
@@ -180,20 +180,20 @@ module _ {g : Layout} {b : List ℕ} {f e : ℕ} (w : Growing g b f e) {fresh : 
     len = shown-same .lengths ∙ sym (length-set c₁ (rootAddress g b f) value)
 
     -- the root is in no block of the tree
-    tree-stays : agree (g .words) b done (root g b f % g .words) (root g b f / g .words) (size g b f)
+    tree-stays : agree (g .words) b done (rootHeight g b f) (rootBlock g b f) (size g b f)
     unfolding done fileBlocks rootBlocks
     tree-stays =
         let tree = shown-same .trees f file in
         let away : occ (rootAddress g b f / g .words) (fileBlocks g b f) ≡ 0 = rw (root-block g fit b f) (leaf-not-file g b (ok .once) (f / g .inodes) f (leaf-of g fit f file) file) in
-        agree-trans (g .words) pos b c₁ done (root g b f % g .words) (root g b f / g .words) (size g b f) tree
-        (agree-away (g .words) pos c₁ (rootAddress g b f) value (root g b f % g .words) (root g b f / g .words) (size g b f)
-        (rw (← (agree-blocks (g .words) pos b c₁ (root g b f % g .words) (root g b f / g .words) (size g b f) tree)) away))
+        agree-trans (g .words) pos b c₁ done (rootHeight g b f) (rootBlock g b f) (size g b f) tree
+        (agree-away (g .words) pos c₁ (rootAddress g b f) value (rootHeight g b f) (rootBlock g b f) (size g b f)
+        (rw (← (agree-blocks (g .words) pos b c₁ (rootHeight g b f) (rootBlock g b f) (size g b f) tree)) away))
 
-    tree-grown : Grown (g .words) b done (blockCount g b - 1) (root g b f % g .words) (root g b f / g .words) h (root g done f / g .words) (size g b f) (λ q. used fresh q 0 (length ps))
+    tree-grown : Grown (g .words) b done (blockCount g b - 1) (rootHeight g b f) (rootBlock g b f) h (rootBlock g done f) (size g b f) (λ q. used fresh q 0 (length ps))
     tree-grown =
-        let reached : root g b f % g .words + (h - root g b f % g .words) ≡ h = omega (arith, higher) in
-        rw block-done (subst (λ (x : ℕ). Grown (g .words) b done (blockCount g b - 1) (root g b f % g .words) (root g b f / g .words) x top (size g b f) (λ q. used fresh q 0 (length ps))) reached
-        (grown (g .words) pos b done (supply .between) (root g b f % g .words) (root g b f / g .words) (size g b f) (h - root g b f % g .words) (w .live) (omega (arith, fits)) held-done tree-stays))
+        let reached : rootHeight g b f + (h - rootHeight g b f) ≡ h = omega (arith, higher) in
+        rw block-done (subst (λ (x : ℕ). Grown (g .words) b done (blockCount g b - 1) (rootHeight g b f) (rootBlock g b f) x top (size g b f) (λ q. used fresh q 0 (length ps))) reached
+        (grown (g .words) pos b done (supply .between) (rootHeight g b f) (rootBlock g b f) (size g b f) (h - rootHeight g b f) (w .live) (omega (arith, fits)) held-done tree-stays))
 
     file-grown : FileCommit g b done f (contents g b f) (λ q. used fresh q 0 (length ps)) (λ q. 0)
     file-grown = grown-commit g fit b done len f h (λ q. used fresh q 0 (length ps)) (w .live) size-done height-done low-enough tree-grown (accepted-parts g b board .files-sound f file)
@@ -242,15 +242,15 @@ module _ {g : Layout} {b : List ℕ} {f e : ℕ} (w : Growing g b f e) {fresh : 
     unfolding step store committed done c₁ value
     growth-root = root-done
 
-    pub growth-height : root g (committed b (growthStep g fresh b f h)) f % g .words ≡ h
+    pub growth-height : rootHeight g (committed b (growthStep g fresh b f h)) f ≡ h
     unfolding step store committed done c₁ value
     growth-height = height-done
 
-    pub growth-reaches : e ≤ span (g .words) (root g (committed b (growthStep g fresh b f h)) f % g .words)
+    pub growth-reaches : e ≤ span (g .words) (rootHeight g (committed b (growthStep g fresh b f h)) f)
     growth-reaches = rw growth-height reaches
 
     -- over the tree stand the levels
-    pub growth-top : root g (committed b (growthStep g fresh b f h)) f / g .words ≡ top
+    pub growth-top : rootBlock g (committed b (growthStep g fresh b f h)) f ≡ top
     unfolding step store committed done c₁ value
     growth-top = block-done
 
@@ -259,11 +259,11 @@ module _ {g : Layout} {b : List ℕ} {f e : ℕ} (w : Growing g b f e) {fresh : 
     growth-held = held-done
 
     -- a walk within the old span ends where it ended
-    pub growth-walks : (i : ℕ) → i < span (g .words) (root g b f % g .words) → walkTo g (committed b (growthStep g fresh b f h)) f i ≡ walkTo g b f i
+    pub growth-walks : (i : ℕ) → i < span (g .words) (rootHeight g b f) → walkTo g (committed b (growthStep g fresh b f h)) f i ≡ walkTo g b f i
     unfolding step store committed done c₁ value walkTo rootWalk
     growth-walks i l =
-        let wider : i < span (g .words) h = omega (arith, span-mono (g .words) pos (root g b f % g .words) h higher) in
-        rw (height-done, ← size-done, lt-ltb i (span (g .words) h) wider, lt-ltb i (span (g .words) (root g b f % g .words)) l) (tree-grown .walks i l)
+        let wider : i < span (g .words) h = omega (arith, span-mono (g .words) pos (rootHeight g b f) h higher) in
+        rw (height-done, ← size-done, lt-ltb i (span (g .words) h) wider, lt-ltb i (span (g .words) (rootHeight g b f)) l) (tree-grown .walks i l)
 
     -- the live blocks are those of b and those of the levels
     counts-done : (q : ℕ) → occ q (liveBlocks g done) ≡ occ q (liveBlocks g b) + used fresh q 0 (length ps)

@@ -12,7 +12,7 @@ use Rattle.model.specs.Lists.{occ}
 use Rattle.model.specs.declared.WalkEnd.the-variants.{Block}
 use Rattle.model.specs.Layout.{Layout}
 use Rattle.model.specs.Tree.{span, cell, walk}
-use Rattle.model.specs.Board.{rootWalk, rootBlocks, blockCount, rootAddress, sizeAddress, root, size, walkTo, fileBlocks, liveBlocks}
+use Rattle.model.specs.Board.{rootWalk, rootBlocks, blockCount, rootAddress, sizeAddress, rootHeight, rootBlock, root, size, walkTo, fileBlocks, liveBlocks}
 use Rattle.model.specs.Store.{Store, store, performed}
 use Rattle.model.specs.Plan.{step}
 use Rattle.model.specs.Fresh.{stored}
@@ -35,7 +35,7 @@ use Rattle.model.proofs.Writing.{Writing}
 use Rattle.model.proofs.GoodSteps.{GoodTurn, pages-hidden, pages-once, pages-same, pages-held}
 
 module _ {g : Layout} {b : List ℕ} {f o : ℕ} {new : List ℕ} (w : Writing g b f o new) (some : 0 < length new)
-    (within : o + length new ≤ size g b f) (under : o + length new ≤ span (g .words) (root g b f % g .words)) where
+    (within : o + length new ≤ size g b f) (under : o + length new ≤ span (g .words) (rootHeight g b f)) where
   open Writing w using (on)
   open FileOn on using (fit, board, file)
 
@@ -60,16 +60,16 @@ module _ {g : Layout} {b : List ℕ} {f o : ℕ} {new : List ℕ} (w : Writing g
     abbrev b₂ : List ℕ
     b₂ = set b a v
 
-    walked : walk (g .words) b (root g b f % g .words) (root g b f / g .words) (size g b f) o ≡ Block K
+    walked : walk (g .words) b (rootHeight g b f) (rootBlock g b f) (size g b f) o ≡ Block K
     unfolding walkTo rootWalk
-    walked = rw (lt-ltb o (span (g .words) (root g b f % g .words)) (omega arith)) at there
+    walked = rw (lt-ltb o (span (g .words) (rootHeight g b f)) (omega arith)) at there
 
     block-of : a / g .words ≡ K
     block-of = address-block (g .words) K (o % span (g .words) 0 / 8) (word-in-block (g .words) pos o)
 
     in-tree : 0 < occ (a / g .words) (fileBlocks g b f)
     unfolding fileBlocks rootBlocks
-    in-tree = rw block-of (walk-inside (g .words) b pos (root g b f % g .words) (root g b f / g .words) (size g b f) o K (omega arith) walked)
+    in-tree = rw block-of (walk-inside (g .words) b pos (rootHeight g b f) (rootBlock g b f) (size g b f) o K (omega arith) walked)
 
     same : Same g b b
     same = same-refl g fit b
@@ -87,20 +87,20 @@ module _ {g : Layout} {b : List ℕ} {f o : ℕ} {new : List ℕ} (w : Writing g
     on-board : a < length b
     on-board = address-on-board g fit b (ok .sizes) a (omega (arith, spot-ranged on a spot .1))
 
-    replaced : Replaced (g .words) b b₂ a (root g b f % g .words) (root g b f / g .words) (size g b f)
+    replaced : Replaced (g .words) b b₂ a (rootHeight g b f) (rootBlock g b f) (size g b f)
     unfolding fileBlocks rootBlocks cell
     replaced = record { once = tree-once; same = λ q l i u d. sym (getD-set-other b a (g .words * q + i) v 0 d) }
 
-    written : Written g b b₂ f (root g b f % g .words) (root g b f / g .words) o (size g b f) new (λ q. 0) (λ q. 0)
+    written : Written g b b₂ f (rootHeight g b f) (rootBlock g b f) o (size g b f) new (λ q. 0) (λ q. 0)
     written = record {
       old = λ live. (refl, refl);
       height = ap (λ (x : ℕ). x % g .words) (sym root-stays);
       now = sym size-stays;
       low = ok .low f file (omega arith);
       most = ok .most f file;
-      past = past-span o new (span (g .words) (root g b f % g .words)) (size g b f) under;
+      past = past-span o new (span (g .words) (rootHeight g b f)) (size g b f) under;
       change = rw (← root-stays)
-          (word-changed (g .words) pos b b₂ new (w .small) (blockCount g b - 1) (root g b f % g .words) (root g b f / g .words) (size g b f) o K walked (omega arith) word replaced (getD-set-same b a v 0 on-board));
+          (word-changed (g .words) pos b b₂ new (w .small) (blockCount g b - 1) (rootHeight g b f) (rootBlock g b f) (size g b f) o K walked (omega arith) word replaced (getD-set-same b a v 0 on-board));
     }
 
     pub single-live : 0 < occ (a / g .words) (liveBlocks g b)
@@ -125,7 +125,7 @@ module _ {g : Layout} {b : List ℕ} {f o : ℕ} {new : List ℕ} (w : Writing g
 
   module _ {fresh : ℕ → ℕ} {c lim : ℕ} (supply : Supply g b fresh c lim) where
     abbrev sh : Shadow
-    sh = descend (g .words) fresh b (root g b f % g .words) (root g b f / g .words) (size g b f) o new c (rootAddress g b f)
+    sh = descend (g .words) fresh b (rootHeight g b f) (rootBlock g b f) (size g b f) o new c (rootAddress g b f)
 
     abbrev low : ℕ
     low = getD b (sh .at) 0 % g .words
@@ -157,7 +157,7 @@ module _ {g : Layout} {b : List ℕ} {f o : ℕ} {new : List ℕ} (w : Writing g
 
       place : (sh .at ≡ rootAddress g b f) ⊎ (0 < occ (sh .at / g .words) (fileBlocks g b f))
       unfolding fileBlocks rootBlocks
-      place = descend-inside (g .words) pos fresh b new c (root g b f % g .words) (root g b f / g .words) (size g b f) o (rootAddress g b f) (omega arith) (omega arith)
+      place = descend-inside (g .words) pos fresh b new c (rootHeight g b f) (rootBlock g b f) (size g b f) o (rootAddress g b f) (omega arith) (omega arith)
 
       lent-spot : Spot g b f (sh .at)
       lent-spot = elim place [ inl e ↦ inl (inl e) | inr z ↦ inr z ]
@@ -210,7 +210,7 @@ module _ {g : Layout} {b : List ℕ} {f o : ℕ} {new : List ℕ} (w : Writing g
       unfolding done sizeAddress
       size-kept = shown-same .sizes f file ∙ spot-size on₁ (sh .at) value commit-spot f file (λ x. not-size (ap (λ (y : ℕ). y + 1) address-same ∙ x))
 
-      root-low : root g done f % g .words ≡ root g b f % g .words
+      root-low : rootHeight g done f ≡ rootHeight g b f
       unfolding root
       root-low = elim (decide (sh .at) (rootAddress g b f)) [
         | inl e ↦ ap (λ (x : ℕ). x % g .words) (root-hit e) ∙ committed-low ∙ ap (λ (x : ℕ). getD b x 0 % g .words) e
@@ -218,12 +218,12 @@ module _ {g : Layout} {b : List ℕ} {f o : ℕ} {new : List ℕ} (w : Writing g
       ]
 
       low-zero : sh .at ≢ rootAddress g b f → low ≡ 0
-      low-zero d = elim (descend-low (g .words) pos fresh b new c (blockCount g b - 1) (root g b f % g .words) (root g b f / g .words) (size g b f) o (rootAddress g b f) (omega arith) (omega arith) (ok .tree f file)) [
+      low-zero d = elim (descend-low (g .words) pos fresh b new c (blockCount g b - 1) (rootHeight g b f) (rootBlock g b f) (size g b f) o (rootAddress g b f) (omega arith) (omega arith) (ok .tree f file)) [
         | inl e ↦ absurd (d e)
         | inr z ↦ z
       ]
 
-      ready : Committed (g .words) fresh b done c lim (length new) sh (root g b f % g .words) (root g b f / g .words) (size g b f) o (rootAddress g b f)
+      ready : Committed (g .words) fresh b done c lim (length new) sh (rootHeight g b f) (rootBlock g b f) (size g b f) o (rootAddress g b f)
       unfolding fileBlocks rootBlocks done c₁
       ready = record {
         replaced = record { once = tree-once; same = words-stay };
@@ -238,18 +238,18 @@ module _ {g : Layout} {b : List ℕ} {f o : ℕ} {new : List ℕ} (w : Writing g
 
       -- the blocks under the commit that are written anew
       abbrev given : List ℕ
-      given = insideBlocks (g .words) b (root g b f % g .words) (root g b f / g .words) (size g b f) o (length new)
+      given = insideBlocks (g .words) b (rootHeight g b f) (rootBlock g b f) (size g b f) o (length new)
 
-      inside-written : Written g b done f (root g b f % g .words) (root g b f / g .words) o (size g b f) new (λ q. used fresh q c (length (sh .pages))) (λ q. occ q given)
+      inside-written : Written g b done f (rootHeight g b f) (rootBlock g b f) o (size g b f) new (λ q. used fresh q c (length (sh .pages))) (λ q. occ q given)
       inside-written = record {
         old = λ live. (refl, refl);
         height = root-low;
         now = sym size-kept;
         low = ok .low f file (omega arith);
         most = ok .most f file;
-        past = past-span o new (span (g .words) (root g b f % g .words)) (size g b f) under;
+        past = past-span o new (span (g .words) (rootHeight g b f)) (size g b f) under;
         change = descend-changed (g .words) pos b done new some (w .small) (supply .between) c
-            (root g b f % g .words) (root g b f / g .words) (size g b f) o (rootAddress g b f) ready (root g done f / g .words)
+            (rootHeight g b f) (rootBlock g b f) (size g b f) o (rootAddress g b f) ready (rootBlock g done f)
             (λ e. ap (λ (x : ℕ). x / g .words) (root-hit e ∙ sym commits ∙ ap (λ (x : ℕ). getD done x 0) e)) (λ d. ap (λ (x : ℕ). x / g .words) (sym (root-else d)));
       }
 

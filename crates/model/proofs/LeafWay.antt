@@ -12,7 +12,7 @@ use borrow.Author.Tests.{eq-eqb, ne-eqb}
 use Rattle.model.specs.Lists.{one, occ}
 use Rattle.model.specs.Layout.{Layout, Fits, files}
 use Rattle.model.specs.Tree.{span, cell}
-use Rattle.model.specs.Board.{rootBlocks, blockCount, trailer, inodeBlock, inodePointer, leaf, rootAddress, sizeAddress, root, size, fileBlocks, liveBlocks, inRange, leafSound}
+use Rattle.model.specs.Board.{rootBlocks, blockCount, trailer, inodeBlock, inodePointer, leaf, rootAddress, sizeAddress, rootHeight, rootBlock, root, size, fileBlocks, liveBlocks, inRange, leafSound}
 use Rattle.model.specs.Store.{Store, store, performed}
 use Rattle.model.specs.Plan.{Step, step}
 use Rattle.model.specs.Fresh.{Page, freshNeed, stored, build}
@@ -40,11 +40,11 @@ use Rattle.model.proofs.Writing.{Writing}
 module _ (g : Layout) (fresh : ℕ → ℕ) (b : List ℕ) (f o : ℕ) (new : List ℕ) (c : ℕ) where
   -- the pages of the fresh tree
   abbrev pub treePages : List Page
-  treePages = build (g .words) fresh b (root g b f % g .words) (root g b f / g .words) (size g b f) o new c
+  treePages = build (g .words) fresh b (rootHeight g b f) (rootBlock g b f) (size g b f) o new c
 
   -- the file's new root word
   abbrev newRoot : ℕ
-  newRoot = g .words * fresh (c + length treePages - 1) + root g b f % g .words
+  newRoot = g .words * fresh (c + length treePages - 1) + rootHeight g b f
 
   -- those pages and the copy of the leaf
   abbrev shadowPages : List Page
@@ -99,7 +99,7 @@ size-word g b f = ap (λ (x : ℕ). getD b x 0) (add-assoc (g .words * leaf g b 
 -- ---- The step is good
 
 module _ {g : Layout} {b : List ℕ} {f o : ℕ} {new : List ℕ} (w : Writing g b f o new) (some : 0 < length new) (live : 0 < size g b f) (beyond : size g b f < o + length new)
-    (under : o + length new ≤ span (g .words) (root g b f % g .words)) {fresh : ℕ → ℕ} {c lim : ℕ} (supply : Supply g b fresh c lim) (room : c + length (treePages g fresh b f o new c) + 1 ≤ lim) where
+    (under : o + length new ≤ span (g .words) (rootHeight g b f)) {fresh : ℕ → ℕ} {c lim : ℕ} (supply : Supply g b fresh c lim) (room : c + length (treePages g fresh b f o new c) + 1 ≤ lim) where
   open FileOn (w .on) using (fit, board, file)
 
   ok : Facts g b
@@ -166,9 +166,9 @@ module _ {g : Layout} {b : List ℕ} {f o : ℕ} {new : List ℕ} (w : Writing g
   unfolding b₂ c₁
   live-stays q z d j l = stored-keeps supply pages pages-room q z j l ∙ sym (cell-away (g .words) pos c₁ a (g .words * copied) q j l (λ x. d (x ∙ commit-block)))
 
-  tree-stays : (i : ℕ) → i < files g → agree (g .words) b b₂ (root g b i % g .words) (root g b i / g .words) (size g b i)
+  tree-stays : (i : ℕ) → i < files g → agree (g .words) b b₂ (rootHeight g b i) (rootBlock g b i) (size g b i)
   unfolding fileBlocks rootBlocks
-  tree-stays i u = frame (g .words) pos b b₂ (root g b i % g .words) (root g b i / g .words) (size g b i)
+  tree-stays i u = frame (g .words) pos b b₂ (rootHeight g b i) (rootBlock g b i) (size g b i)
       (λ q z. live-stays q (omega (arith, file-live g b i q u)) (file-not-inode g b (ok .once) i q u z))
 
   trailers : (j : ℕ) → j < g .words → trailer g b j ≡ trailer g b₂ j
@@ -255,36 +255,36 @@ module _ {g : Layout} {b : List ℕ} {f o : ℕ} {new : List ℕ} (w : Writing g
   }
 
   -- the file's tree
-  height-new : root g b₂ f % g .words ≡ root g b f % g .words
-  height-new = ap (λ (x : ℕ). x % g .words) root-new ∙ mul-add-mod-self-left (g .words) (fresh (c + length ps - 1)) (root g b f % g .words) ∙ mod-eq-of-lt (mod-lt (root g b f) pos)
+  height-new : rootHeight g b₂ f ≡ rootHeight g b f
+  height-new = ap (λ (x : ℕ). x % g .words) root-new ∙ mul-add-mod-self-left (g .words) (fresh (c + length ps - 1)) (rootHeight g b f) ∙ mod-eq-of-lt (mod-lt (root g b f) pos)
 
-  block-new : root g b₂ f / g .words ≡ fresh (c + length ps - 1)
-  block-new = ap (λ (x : ℕ). x / g .words) root-new ∙ address-block (g .words) (fresh (c + length ps - 1)) (root g b f % g .words) (mod-lt (root g b f) pos)
+  block-new : rootBlock g b₂ f ≡ fresh (c + length ps - 1)
+  block-new = ap (λ (x : ℕ). x / g .words) root-new ∙ address-block (g .words) (fresh (c + length ps - 1)) (rootHeight g b f) (mod-lt (root g b f) pos)
 
   -- what lies past the old size ends where the written bytes end
-  reach : Reach (size g b f) m o (length new) (span (g .words) (root g b f % g .words))
+  reach : Reach (size g b f) m o (length new) (span (g .words) (rootHeight g b f))
   reach i u v w = omega arith
 
   -- the blocks on the paths that are made fresh
   abbrev path : List ℕ
-  path = pathBlocks (g .words) b (root g b f % g .words) (root g b f / g .words) (size g b f) o (length new)
+  path = pathBlocks (g .words) b (rootHeight g b f) (rootBlock g b f) (size g b f) o (length new)
 
-  changed : Changed (g .words) b b₂ (blockCount g b - 1) (root g b f % g .words) (root g b f / g .words) (root g b₂ f / g .words) (size g b f) m o new (λ q. used fresh q c (length ps)) (λ q. occ q path)
+  changed : Changed (g .words) b b₂ (blockCount g b - 1) (rootHeight g b f) (rootBlock g b f) (rootBlock g b₂ f) (size g b f) m o new (λ q. used fresh q c (length ps)) (λ q. occ q path)
   changed =
-      let count : freshNeed (g .words) b (root g b f % g .words) (root g b f / g .words) (size g b f) o (length new) ≡ length ps = sym (length-build (g .words) pos b fresh (root g b f % g .words) (root g b f / g .words) (size g b f) o new c) in
+      let count : freshNeed (g .words) b (rootHeight g b f) (rootBlock g b f) (size g b f) o (length new) ≡ length ps = sym (length-build (g .words) pos b fresh (rootHeight g b f) (rootBlock g b f) (size g b f) o new c) in
       rw block-new (subst
-      (λ (x : ℕ). Changed (g .words) b b₂ (blockCount g b - 1) (root g b f % g .words) (root g b f / g .words) (fresh (c + x - 1)) (size g b f) m o new (λ q. used fresh q c x) (λ q. occ q path)) count
-      (build-changed (g .words) pos b fresh b₂ (supply .between) (root g b f % g .words) (root g b f / g .words) (size g b f) o new c m
-      (touched-new (g .words) (root g b f % g .words) (root g b f / g .words) (size g b f) o (length new) some) (omega (arith, count)) (w .small) tree-held (tree-stays f file) (omega arith) (omega arith) (λ u. omega arith) reach))
+      (λ (x : ℕ). Changed (g .words) b b₂ (blockCount g b - 1) (rootHeight g b f) (rootBlock g b f) (fresh (c + x - 1)) (size g b f) m o new (λ q. used fresh q c x) (λ q. occ q path)) count
+      (build-changed (g .words) pos b fresh b₂ (supply .between) (rootHeight g b f) (rootBlock g b f) (size g b f) o new c m
+      (touched-new (g .words) (rootHeight g b f) (rootBlock g b f) (size g b f) o (length new) some) (omega (arith, count)) (w .small) tree-held (tree-stays f file) (omega arith) (omega arith) (λ u. omega arith) reach))
 
-  written : Written g b b₂ f (root g b f % g .words) (root g b f / g .words) o m new (λ q. used fresh q c (length ps)) (λ q. occ q path)
+  written : Written g b b₂ f (rootHeight g b f) (rootBlock g b f) o m new (λ q. used fresh q c (length ps)) (λ q. occ q path)
   written = record {
     old = λ z. (refl, refl);
     height = height-new;
     now = size-new;
     low = ok .low f file live;
     most = omega arith;
-    past = past-span o new (span (g .words) (root g b f % g .words)) m under;
+    past = past-span o new (span (g .words) (rootHeight g b f)) m under;
     change = changed;
   }
 
@@ -311,7 +311,7 @@ module _ {g : Layout} {b : List ℕ} {f o : ℕ} {new : List ℕ} (w : Writing g
   )
 
   pub leaf-good : GoodTurn g b f (leafStep g fresh b f o new c) (spliced g b f o new (max (size g b f) (o + length new))) (λ q. used fresh q c (length (treePages g fresh b f o new c) + 1))
-      (λ q. occ q (leaf g b (f / g .inodes) ∷ pathBlocks (g .words) b (root g b f % g .words) (root g b f / g .words) (size g b f) o (length new)))
+      (λ q. occ q (leaf g b (f / g .inodes) ∷ pathBlocks (g .words) b (rootHeight g b f) (rootBlock g b f) (size g b f) o (length new)))
   unfolding step store committed b₂ c₁
   leaf-good = record {
     good = record {
@@ -329,11 +329,11 @@ module _ {g : Layout} {b : List ℕ} {f o : ℕ} {new : List ℕ} (w : Writing g
   unfolding step store committed b₂ c₁
   leaf-held = tree-held
 
-  pub leaf-height : root g (committed b (leafStep g fresh b f o new c)) f % g .words ≡ root g b f % g .words
+  pub leaf-height : rootHeight g (committed b (leafStep g fresh b f o new c)) f ≡ rootHeight g b f
   unfolding step store committed b₂ c₁
   leaf-height = height-new
 
-  pub leaf-block : root g (committed b (leafStep g fresh b f o new c)) f / g .words ≡ fresh (c + length ps - 1)
+  pub leaf-block : rootBlock g (committed b (leafStep g fresh b f o new c)) f ≡ fresh (c + length ps - 1)
   unfolding step store committed b₂ c₁
   leaf-block = block-new
 

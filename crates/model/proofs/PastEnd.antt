@@ -3,7 +3,7 @@ use mathlib.Core.Path.{_≡_, refl, ap, _∙_}
 use mathlib.Core.Logic.{inl, inr}
 use mathlib.Core.Bool.{false}
 use mathlib.Core.List.{List, [], _∷_}
-use Prim.Native.Nat.{ℕ, zero, suc, _+_, _-_, _/_, _%_, _≤_, _<_}
+use Prim.Native.Nat.{ℕ, zero, suc, _+_, _-_, _≤_, _<_}
 use native.Mathlib.Omega.{arith}
 use lib.ListN.{length, getD, take, drop}
 use lib.Dec.{T, eqb}
@@ -12,7 +12,7 @@ use Rattle.model.specs.declared.WalkEnd.the-variants.{Hole}
 use Rattle.model.specs.Lists.{member}
 use Rattle.model.specs.Layout.{Layout}
 use Rattle.model.specs.Tree.{live, span, least}
-use Rattle.model.specs.Board.{blockCount, rootWalk, root, size, sizeAddress, inodeOf, walkTo, contents, free}
+use Rattle.model.specs.Board.{blockCount, rootWalk, rootHeight, rootBlock, size, sizeAddress, inodeOf, walkTo, contents, free}
 use Rattle.model.specs.Store.{performed, stores, fenced}
 use Rattle.model.specs.Plan.{Plan, plan, planEpochs, afterwards, pairs}
 use Rattle.model.specs.Fresh.{freshNeed, need, build}
@@ -61,9 +61,9 @@ module _ (g : Layout) (fresh : ℕ → ℕ) (b : List ℕ) (f o : ℕ) (new : Li
 -- ---- What it leaves
 
 -- *a byte past the span is in a hole*
-beyond-hole : (g : Layout) (b : List ℕ) (f i : ℕ) → span (g .words) (root g b f % g .words) ≤ i → walkTo g b f i ≡ Hole
+beyond-hole : (g : Layout) (b : List ℕ) (f i : ℕ) → span (g .words) (rootHeight g b f) ≤ i → walkTo g b f i ≡ Hole
 unfolding walkTo rootWalk
-beyond-hole g b f i l = rw (le-ltb i (span (g .words) (root g b f % g .words)) l)
+beyond-hole g b f i l = rw (le-ltb i (span (g .words) (rootHeight g b f)) l)
 
 module _ {g : Layout} {b : List ℕ} {f o : ℕ} {new : List ℕ} (w : Writing g b f o new) (some : 0 < length new) (reach : Spanned g b f (o + length new))
     {fresh : ℕ → ℕ} {c lim : ℕ} (supply : Supply g b fresh c lim) (past : size g b f < o) (taken : List ℕ) where
@@ -79,9 +79,9 @@ module _ {g : Layout} {b : List ℕ} {f o : ℕ} {new : List ℕ} (w : Writing g
 
   empty-hole : size g b f ≡ 0 → (i : ℕ) → walkTo g b f i ≡ Hole
   unfolding walkTo rootWalk
-  empty-hole z i = elim (split (span W (root g b f % W)) i) [
+  empty-hole z i = elim (split (span W (rootHeight g b f)) i) [
     | inl beyond ↦ beyond-hole g b f i beyond
-    | inr within ↦ rw (lt-ltb i (span W (root g b f % W)) within, z, walk-dead W b (root g b f % W) (root g b f / W) i)
+    | inr within ↦ rw (lt-ltb i (span W (rootHeight g b f)) within, z, walk-dead W b (rootHeight g b f) (rootBlock g b f) i)
   ]
 
   past-empty : size g b f ≡ 0 → Past (emptyTail g fresh b (inodeOf g b f) o new c)
@@ -105,15 +105,15 @@ module _ {g : Layout} {b : List ℕ} {f o : ℕ} {new : List ℕ} (w : Writing g
   past-leaf : 0 < size g b f → Past (shadowWithLength g fresh b (inodeOf g b f) o new c)
   unfolding shadowWithLength plan allCommitted walkTo rootWalk
   past-leaf l room among =
-      let h : ℕ = root g b f % W in
-      let k : ℕ = root g b f / W in
+      let h : ℕ = rootHeight g b f in
+      let k : ℕ = rootBlock g b f in
       let n : ℕ = size g b f in
       let under : o + length new ≤ span W h = reach l in
       let len : length (treePages g fresh b f o new c) ≡ freshNeed W b h k n o (length new) = length-build W pos b fresh h k n o new c in
       let within : n - 1 < span W h = omega arith in
       let b′ : List ℕ = committed b (leafStep g fresh b f o new c) in
       let high = leaf-height w some l (omega arith) under supply room in
-      let block : root g b′ f / W ≡ fresh (c + freshNeed W b h k n o (length new) - 1) =
+      let block : rootBlock g b′ f ≡ fresh (c + freshNeed W b h k n o (length new) - 1) =
       leaf-block w some l (omega arith) under supply room ∙ ap (λ (x : ℕ). fresh (c + x - 1)) len in
       let now = leaf-size w some l (omega arith) under supply room in
       let end : ℕ = c + length (treePages g fresh b f o new c) + 1 in
@@ -199,7 +199,7 @@ module _ {g : Layout} {b : List ℕ} {f o : ℕ} {new : List ℕ} (w : Writing g
       -- growth keeps walks that end at a block
       walks-kept : (i : ℕ) → T (atBlock (walkTo g b f i)) → T (atBlock (walkTo g c f i))
       unfolding atBlock
-      walks-kept i x = elim (split (span (g .words) (root g b f % g .words)) i) [
+      walks-kept i x = elim (split (span (g .words) (rootHeight g b f)) i) [
         | inl beyond ↦ absurd (rw (beyond-hole g b f i beyond) at x)
         | inr within ↦ rw (growth-walks grow lent enough i within) x
       ]

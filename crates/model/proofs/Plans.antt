@@ -3,7 +3,7 @@ use mathlib.Core.Path.{_≡_, refl, sym, ap, _∙_}
 use mathlib.Core.Logic.{_↔_, inl, inr}
 use mathlib.Core.Bool.{false}
 use mathlib.Core.List.{List, [], _∷_, _++_, append-nil}
-use Prim.Native.Nat.{ℕ, zero, suc, _+_, _-_, _*_, _/_, _%_, _≤_, _<_}
+use Prim.Native.Nat.{ℕ, zero, suc, _+_, _-_, _*_, _/_, _≤_, _<_}
 use native.Mathlib.Omega.{arith}
 use native.Mathlib.Nat.{zero-add, sub-zero, mul-zero, mul-pos}
 use lib.ListN.{length, take, replicate}
@@ -14,7 +14,7 @@ use Rattle.model.specs.declared.WalkEnd.the-variants.{Block, Hole}
 use Rattle.model.specs.Lists.{concat, sum, occ}
 use Rattle.model.specs.Layout.{Layout, Fits}
 use Rattle.model.specs.Tree.{span, least}
-use Rattle.model.specs.Board.{greatest, rootAddress, sizeAddress, root, size, inodeOf, contents, liveBlocks}
+use Rattle.model.specs.Board.{greatest, rootAddress, sizeAddress, rootHeight, rootBlock, size, inodeOf, contents, liveBlocks}
 use Rattle.model.specs.Store.{Store, store, performed}
 use Rattle.model.specs.Plan.{Plan, plan, Step, step, planEpochs, afterwards}
 use Rattle.model.specs.Fresh.{stored}
@@ -123,7 +123,7 @@ module _ (g : Layout) (b : List ℕ) (f n : ℕ) where
   cleared-empty zero e = refl
   cleared-empty (suc s) e = absurd (omega arith)
 
-  pub cleared-live : (s : ℕ) → 0 < s → cleared g b f s n ≡ inPlace (g .words) b (λ h l c. 0) (root g b f % g .words) (root g b f / g .words) s (replicate (n - s) 0) 0 (rootAddress g b f)
+  pub cleared-live : (s : ℕ) → 0 < s → cleared g b f s n ≡ inPlace (g .words) b (λ h l c. 0) (rootHeight g b f) (rootBlock g b f) s (replicate (n - s) 0) 0 (rootAddress g b f)
   unfolding cleared
   cleared-live zero l = absurd (omega arith)
   cleared-live (suc s) l = refl
@@ -199,7 +199,7 @@ module _ {g : Layout} {b : List ℕ} {f o : ℕ} {new : List ℕ} (w : Writing g
 
   -- a single word, before which there is no growth
   single-reach : (K : ℕ) → singleBlock g b f o e ≡ Block K → Spanned g b f e
-  single-reach K is l = elim (split e (span (g .words) (root g b f % g .words))) [
+  single-reach K is l = elim (split e (span (g .words) (rootHeight g b f))) [
     | inl u ↦ u
     | inr m ↦ absurd (hole≢block K (sym (single-past g b f o e (omega arith) m) ∙ is))
   ]

@@ -1,13 +1,13 @@
 -- Where the live blocks and the roots of an accepted board lie.
 use mathlib.Core.Logic.{inl, inr}
 use mathlib.Core.List.{List}
-use Prim.Native.Nat.{ℕ, zero, suc, _-_, _*_, _/_, _%_, _<_}
+use Prim.Native.Nat.{ℕ, zero, suc, _-_, _*_, _/_, _<_}
 use native.Mathlib.Omega.{arith}
 use lib.Dec.{T, ltb→lt}
 use Rattle.model.specs.Lists.{sum, one, occ}
 use Rattle.model.specs.Layout.{Layout, Fits, files}
 use Rattle.model.specs.Tree.{span, cell, link, blocks, sound}
-use Rattle.model.specs.Board.{rootBlocks, blockCount, inodeBlock, leaf, root, size, fileBlocks, liveBlocks}
+use Rattle.model.specs.Board.{rootBlocks, blockCount, inodeBlock, leaf, rootHeight, rootBlock, size, fileBlocks, liveBlocks}
 use Rattle.model.proofs.Cases.{split, decide}
 use Rattle.model.proofs.Sums.{sum-some}
 use Rattle.model.proofs.Counting.{one-other, occ-joined, one-some}
@@ -36,12 +36,12 @@ module _ (W : ℕ) (pos : 0 < W) (b : List ℕ) (top : ℕ) where
 pub record Pointers (g : Layout) (b : List ℕ) : Type 0 where
   pub inode-in : Ranged g b (inodeBlock g b)
   pub leaves-in : (l : ℕ) → l < g .leaves → Ranged g b (leaf g b l)
-  pub trees-sound : (f : ℕ) → f < files g → T (sound (g .words) b (blockCount g b - 1) (root g b f % g .words) (root g b f / g .words) (size g b f))
+  pub trees-sound : (f : ℕ) → f < files g → T (sound (g .words) b (blockCount g b - 1) (rootHeight g b f) (rootBlock g b f) (size g b f))
 
 module _ (g : Layout) (pos : 0 < g .words) (b : List ℕ) (ok : Pointers g b) where
   file-in : (f x : ℕ) → f < files g → 0 < occ x (fileBlocks g b f) → Ranged g b x
   unfolding fileBlocks rootBlocks
-  file-in f x h o = tree-range (g .words) pos b (blockCount g b - 1) (root g b f % g .words) (root g b f / g .words) (size g b f) x (ok .trees-sound f h) o
+  file-in f x h o = tree-range (g .words) pos b (blockCount g b - 1) (rootHeight g b f) (rootBlock g b f) (size g b f) x (ok .trees-sound f h) o
 
   pub live-in : (x : ℕ) → 0 < occ x (liveBlocks g b) → Ranged g b x
   live-in x o = elim (decide x (inodeBlock g b)) [

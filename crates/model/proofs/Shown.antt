@@ -15,7 +15,7 @@ use Rattle.model.specs.Lists.{tabulate, joined, every, sum, distinct, on
 use Rattle.model.specs.Words.{byteOf}
 use Rattle.model.specs.Layout.{Layout, Fits, files}
 use Rattle.model.specs.Tree.{ending, span, link, walk, shown}
-use Rattle.model.specs.Board.{rootWalk, rootBlocks, rootSound, trailerWord, greatest, blockCount, trailer, inodeBlock, inodePointer, leaf, rootAddress, root, size, walkTo, contents, fileBlocks, liveBlocks, free, inRange, wordCountSound, trailerSound, leafSound, fileSound, treesSound, accepted, sizeAddress}
+use Rattle.model.specs.Board.{rootWalk, rootBlocks, rootSound, trailerWord, greatest, blockCount, trailer, inodeBlock, inodePointer, leaf, rootAddress, rootHeight, rootBlock, root, size, walkTo, contents, fileBlocks, liveBlocks, free, inRange, wordCountSound, trailerSound, leafSound, fileSound, treesSound, accepted, sizeAddress}
 use Rattle.model.specs.Calls.{wordCountFault, boardFaults, checkAnswer}
 use Rattle.model.specs.Claims.{Shows}
 use Rattle.model.proofs.Cases.{split, every-cong, tabulate-cong, joined-cong}
@@ -130,7 +130,7 @@ pub record Same (g : Layout) (b b′ : List ℕ) : Type 0 where
   pub pointers : (l : ℕ) → l < g .leaves → inodePointer g b l ≡ inodePointer g b′ l
   pub sizes : (f : ℕ) → f < files g → size g b f ≡ size g b′ f
   pub roots : (f : ℕ) → f < files g → 0 < size g b f → root g b f ≡ root g b′ f
-  pub trees : (f : ℕ) → f < files g → agree (g .words) b b′ (root g b f % g .words) (root g b f / g .words) (size g b f)
+  pub trees : (f : ℕ) → f < files g → agree (g .words) b b′ (rootHeight g b f) (rootBlock g b f) (size g b f)
 
 pub words-pos : (g : Layout) → Fits g → 0 < g .words
 words-pos g fit = omega (arith, fit .trailer-fits)

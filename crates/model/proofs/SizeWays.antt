@@ -12,7 +12,7 @@ use borrow.Author.Tests.{eq-eqb}
 use Rattle.model.specs.Lists.{some, member, occ}
 use Rattle.model.specs.Layout.{Layout, files}
 use Rattle.model.specs.Tree.{span, least, blocks, sound}
-use Rattle.model.specs.Board.{rootBlocks, greatest, blockCount, leaf, rootAddress, sizeAddress, root, size, fileBlocks, liveBlocks, free}
+use Rattle.model.specs.Board.{rootBlocks, greatest, blockCount, leaf, rootAddress, sizeAddress, rootHeight, rootBlock, root, size, fileBlocks, liveBlocks, free}
 use Rattle.model.specs.Store.{Store, store, performed}
 use Rattle.model.specs.Hidden.{hiddenUnder, hiddenInFile, hidden}
 use Rattle.model.specs.Plan.{step}
@@ -71,11 +71,11 @@ module _ {g : Layout} {b : List ℕ} {f : ℕ} (on : FileOn g b f) where
     -- what the file's tree has become there, if its size becomes m
     pub record Sized (h k o m : ℕ) (new : List ℕ) (extra gone : ℕ → ℕ) : Type 0 where
       pub old : Had g b f h k
-      pub height : root g c₁ f % g .words ≡ h
+      pub height : rootHeight g c₁ f ≡ h
       pub low : h ≤ g .height
       pub most : m ≤ greatest g
       pub past : (i : ℕ) → span (g .words) h ≤ i → i < m → splice o new 0 i ≡ 0
-      pub change : Changed (g .words) b c₁ (blockCount g b - 1) h k (root g c₁ f / g .words) (size g b f) m o new extra gone
+      pub change : Changed (g .words) b c₁ (blockCount g b - 1) h k (rootBlock g c₁ f) (size g b f) m o new extra gone
       pub fine : T (sound (g .words) b (blockCount g b - 1) h k (size g b f))
       pub spare : (q : ℕ) → occ q (liveBlocks g b) + extra q ≤ 1
 
@@ -107,7 +107,7 @@ module _ {g : Layout} {b : List ℕ} {f : ℕ} (on : FileOn g b f) where
       now = stored-size on₁ a m spot (ap (λ (x : ℕ). x + 1) address-kept)
 
       -- the leaf is no block of the tree, also not of what it has become
-      leaf-out : occ (a / g .words) (blocks (g .words) c₁ h (root g c₁ f / g .words) m) ≡ 0
+      leaf-out : occ (a / g .words) (blocks (g .words) c₁ h (rootBlock g c₁ f) m) ≡ 0
       leaf-out =
           let q : ℕ = leaf g b (f / g .inodes) in
           rw (size-block g fit b f) (omega (
@@ -127,8 +127,8 @@ module _ {g : Layout} {b : List ℕ} {f : ℕ} (on : FileOn g b f) where
         low = w .low;
         most = w .most;
         past = w .past;
-        change = rw (← root-kept) (changed-to (g .words) pos b c₁ (blockCount g b - 1) done h k (root g c₁ f / g .words) (size g b f) m o new extra gone (w .change)
-            (agree-away (g .words) pos c₁ a m h (root g c₁ f / g .words) m leaf-out));
+        change = rw (← root-kept) (changed-to (g .words) pos b c₁ (blockCount g b - 1) done h k (rootBlock g c₁ f) (size g b f) m o new extra gone (w .change)
+            (agree-away (g .words) pos c₁ a m h (rootBlock g c₁ f) m leaf-out));
       }
 
       sized-file : FileCommit g b done f (spliced g b f o new m) extra gone
@@ -147,16 +147,16 @@ module _ {g : Layout} {b : List ℕ} {f : ℕ} (on : FileOn g b f) where
       }
 
   -- the file's own tree
-  tree-had : Had g b f (root g b f % g .words) (root g b f / g .words)
+  tree-had : Had g b f (rootHeight g b f) (rootBlock g b f)
   tree-had live = (refl, refl)
 
   -- ---- Hidden stores of a file
 
   -- in its tree
-  under-hidden : (s : Store) → T (hiddenUnder (g .words) b s (root g b f % g .words) (root g b f / g .words) (size g b f)) → T (hidden g b s)
+  under-hidden : (s : Store) → T (hiddenUnder (g .words) b s (rootHeight g b f) (rootBlock g b f) (size g b f)) → T (hidden g b s)
   unfolding hidden hiddenInFile
   under-hidden s h = or-right (member (s .at / g .words) (free g b)) (some (files g) (hiddenInFile g b s)) (some-at (files g) (hiddenInFile g b s) f file
-      (or-right (eqb (s .at) (rootAddress g b f) && eqb (size g b f) 0) (hiddenUnder (g .words) b s (root g b f % g .words) (root g b f / g .words) (size g b f)) h))
+      (or-right (eqb (s .at) (rootAddress g b f) && eqb (size g b f) 0) (hiddenUnder (g .words) b s (rootHeight g b f) (rootBlock g b f) (size g b f)) h))
 
   -- its root, where the size is 0
   root-hidden : (v : ℕ) → size g b f ≡ 0 → T (hidden g b (store (rootAddress g b f) v))
@@ -166,16 +166,16 @@ module _ {g : Layout} {b : List ℕ} {f : ℕ} (on : FileOn g b f) where
 
   -- what is stored in place in its tree is hidden, and goes to no word twice
   in-tree-hidden : (hook : ℕ → ℕ → ℕ → ℕ) (new : List ℕ) (c : ℕ) → 0 < size g b f → Small new
-      → All (λ s. T (hidden g b s)) (inPlace (g .words) b hook (root g b f % g .words) (root g b f / g .words) (size g b f) new c (rootAddress g b f))
+      → All (λ s. T (hidden g b s)) (inPlace (g .words) b hook (rootHeight g b f) (rootBlock g b f) (size g b f) new c (rootAddress g b f))
   in-tree-hidden hook new c live small = all-map _ (λ s. T (hidden g b s)) under-hidden _
-      (in-place-hidden (g .words) b hook (root g b f % g .words) (root g b f / g .words) (size g b f) new c (rootAddress g b f) live small)
+      (in-place-hidden (g .words) b hook (rootHeight g b f) (rootBlock g b f) (size g b f) new c (rootAddress g b f) live small)
 
   in-tree-once : (hook : ℕ → ℕ → ℕ → ℕ) (new : List ℕ) (c : ℕ) → 0 < size g b f → (x : ℕ)
-      → occ x (addresses (inPlace (g .words) b hook (root g b f % g .words) (root g b f / g .words) (size g b f) new c (rootAddress g b f))) ≤ occ (x / g .words) (liveBlocks g b)
+      → occ x (addresses (inPlace (g .words) b hook (rootHeight g b f) (rootBlock g b f) (size g b f) new c (rootAddress g b f))) ≤ occ (x / g .words) (liveBlocks g b)
   unfolding fileBlocks rootBlocks
   in-tree-once hook new c live x = omega (
     arith,
-    in-place-once (g .words) b hook (root g b f % g .words) (root g b f / g .words) (size g b f) new c (rootAddress g b f) x live,
+    in-place-once (g .words) b hook (rootHeight g b f) (rootBlock g b f) (size g b f) new c (rootAddress g b f) x live,
     file-live g b f (x / g .words) file,
   )
 
@@ -188,7 +188,7 @@ module _ {g : Layout} {b : List ℕ} {f : ℕ} (on : FileOn g b f) where
 
   -- n < s: one store of the size
   pub shorten-good : (n : ℕ) → n ≤ size g b f → 0 < size g b f → GoodTurn g b f (step [] (sizeAddress g b f) n) (spliced g b f 0 [] n) (λ q. 0)
-      (λ q. occ q (droppedBlocks (g .words) b (root g b f % g .words) (root g b f / g .words) (size g b f) n))
+      (λ q. occ q (droppedBlocks (g .words) b (rootHeight g b f) (rootBlock g b f) (size g b f) n))
   unfolding All occ performed
   shorten-good n less live = size-good [] tt (λ x. omega arith) (record {
     old = tree-had;
@@ -196,7 +196,7 @@ module _ {g : Layout} {b : List ℕ} {f : ℕ} (on : FileOn g b f) where
     low = ok .low f file live;
     most = omega (arith, ok .most f file);
     past = λ i u v. splice-none 0 [] 0 i refl;
-    change = shrink-changed (g .words) pos b b (blockCount g b - 1) (root g b f % g .words) (root g b f / g .words) (size g b f) n 0 less (agree-refl (g .words) pos b _ _ _);
+    change = shrink-changed (g .words) pos b b (blockCount g b - 1) (rootHeight g b f) (rootBlock g b f) (size g b f) n 0 less (agree-refl (g .words) pos b _ _ _);
     fine = ok .tree f file;
     spare = λ q. omega (arith, ok .once q);
   })
@@ -227,7 +227,7 @@ module _ {g : Layout} {b : List ℕ} {f : ℕ} (on : FileOn g b f) where
     zeros = replicate (n - size g b f) 0
 
     abbrev clears : List Store
-    clears = inPlace (g .words) b (λ h l c. 0) (root g b f % g .words) (root g b f / g .words) (size g b f) zeros 0 (rootAddress g b f)
+    clears = inPlace (g .words) b (λ h l c. 0) (rootHeight g b f) (rootBlock g b f) (size g b f) zeros 0 (rootAddress g b f)
 
     clears-hidden : All (λ s. T (hidden g b s)) clears
     clears-hidden = in-tree-hidden (λ h l c. 0) zeros 0 live (λ i. omega (arith, zeros-replicate (n - size g b f) i))
@@ -245,7 +245,7 @@ module _ {g : Layout} {b : List ℕ} {f : ℕ} (on : FileOn g b f) where
       low = ok .low f file live;
       most = most;
       past = λ i u v. splice-zeros (size g b f) zeros 0 i (zeros-replicate (n - size g b f)) refl;
-      change = rw (← root-same) (length-changed (g .words) pos b (performed b clears) (blockCount g b - 1) (root g b f % g .words) (root g b f / g .words) (size g b f) n (n - size g b f) 0 (rootAddress g b f) live (record {
+      change = rw (← root-same) (length-changed (g .words) pos b (performed b clears) (blockCount g b - 1) (rootHeight g b f) (rootBlock g b f) (size g b f) n (n - size g b f) 0 (rootAddress g b f) live (record {
         grows = more;
         fits = rw (length-replicate {A = ℕ} (n - size g b f) 0) (omega arith);
         cover = λ i u v w. (u, rw (length-replicate {A = ℕ} (n - size g b f) 0) (omega arith));
@@ -259,20 +259,20 @@ module _ {g : Layout} {b : List ℕ} {f : ℕ} (on : FileOn g b f) where
   -- ---- Tail
 
   -- s > 0, and no live pointer on the path is null
-  module _ {new : List ℕ} (w : Writing g b f (size g b f) new) (live : 0 < size g b f) (path : T (atBlock (walkLive (g .words) b (root g b f % g .words) (root g b f / g .words) (size g b f))))
-      (under : size g b f + length new ≤ span (g .words) (root g b f % g .words)) {fresh : ℕ → ℕ} {c lim : ℕ} (supply : Supply g b fresh c lim) where
+  module _ {new : List ℕ} (w : Writing g b f (size g b f) new) (live : 0 < size g b f) (path : T (atBlock (walkLive (g .words) b (rootHeight g b f) (rootBlock g b f) (size g b f))))
+      (under : size g b f + length new ≤ span (g .words) (rootHeight g b f)) {fresh : ℕ → ℕ} {c lim : ℕ} (supply : Supply g b fresh c lim) where
     abbrev tails : List Page
-    tails = tailPages (g .words) b fresh (root g b f % g .words) (root g b f / g .words) (size g b f) new c
+    tails = tailPages (g .words) b fresh (rootHeight g b f) (rootBlock g b f) (size g b f) new c
 
     abbrev others : List Store
-    others = inPlace (g .words) b (λ h l i. freshPointer (g .words) fresh h 0 l i) (root g b f % g .words) (root g b f / g .words) (size g b f) new c (rootAddress g b f)
+    others = inPlace (g .words) b (λ h l i. freshPointer (g .words) fresh h 0 l i) (rootHeight g b f) (rootBlock g b f) (size g b f) new c (rootAddress g b f)
 
     module _ (room : c + length tails ≤ lim) where
       abbrev tail-epoch : List Store
       tail-epoch = stored (g .words) fresh tails c ++ others
 
-      taken : length tails ≡ tailNeed (g .words) (root g b f % g .words) (size g b f) (length new)
-      taken = length-tail (g .words) pos b fresh (root g b f % g .words) (root g b f / g .words) (size g b f) new c
+      taken : length tails ≡ tailNeed (g .words) (rootHeight g b f) (size g b f) (length new)
+      taken = length-tail (g .words) pos b fresh (rootHeight g b f) (rootBlock g b f) (size g b f) new c
 
       tail-hidden : All (λ s. T (hidden g b s)) tail-epoch
       tail-hidden = all-append (λ s. T (hidden g b s)) (stored (g .words) fresh tails c) others (stored-hidden supply fit tails room)
@@ -294,7 +294,7 @@ module _ {g : Layout} {b : List ℕ} {f : ℕ} (on : FileOn g b f) where
       Stood s = getD (performed b tail-epoch) (s .at) 0 ≡ s .value
 
       pub tail-good : GoodTurn g b f (step tail-epoch (sizeAddress g b f) (size g b f + length new)) (spliced g b f (size g b f) new (size g b f + length new))
-          (λ q. used fresh q c (tailNeed (g .words) (root g b f % g .words) (size g b f) (length new))) (λ q. 0)
+          (λ q. used fresh q c (tailNeed (g .words) (rootHeight g b f) (size g b f) (length new))) (λ q. 0)
       unfolding Stood
       tail-good =
           let all-stand : Stands (performed b tail-epoch) tail-epoch = stands tail-epoch tail-hidden tail-once in
@@ -303,9 +303,9 @@ module _ {g : Layout} {b : List ℕ} {f : ℕ} (on : FileOn g b f) where
             height = ap (λ (x : ℕ). x % g .words) (sym tail-root);
             low = ok .low f file live;
             most = w .most;
-            past = past-span (size g b f) new (span (g .words) (root g b f % g .words)) (size g b f + length new) under;
+            past = past-span (size g b f) new (span (g .words) (rootHeight g b f)) (size g b f + length new) under;
             change = rw (← tail-root) (tail-changed (g .words) pos b (performed b tail-epoch) (supply .between)
-                (root g b f % g .words) (root g b f / g .words) (size g b f) (size g b f + length new) new c (rootAddress g b f) live (record {
+                (rootHeight g b f) (rootBlock g b f) (size g b f) (size g b f + length new) new c (rootAddress g b f) live (record {
                   grows = omega arith;
                   fits = omega arith;
                   cover = λ i u v l. (u, v);

@@ -1,14 +1,14 @@
 -- Which free blocks a step stores to: the fresh ones that it takes, and no other.
 use mathlib.Core.Path.{_≡_, refl, sym, ap}
 use mathlib.Core.List.{List, [], _∷_, _++_, map, map-append}
-use Prim.Native.Nat.{ℕ, zero, suc, _+_, _-_, _*_, _/_, _%_, _≤_, _<_}
+use Prim.Native.Nat.{ℕ, zero, suc, _+_, _-_, _*_, _/_, _≤_, _<_}
 use native.Mathlib.Omega.{arith}
 use native.Mathlib.Nat.{zero-mul, suc-mul, mul-zero, mul-add}
 use lib.ListN.{length}
 use Rattle.model.specs.Lists.{tabulate, sum, concat, one, occ}
 use Rattle.model.specs.Layout.{Layout, files}
 use Rattle.model.specs.Tree.{blocks}
-use Rattle.model.specs.Board.{liveBlocks, rootBlocks, rootAddress, root, size, fileBlocks}
+use Rattle.model.specs.Board.{liveBlocks, rootBlocks, rootAddress, rootHeight, rootBlock, size, fileBlocks}
 use Rattle.model.specs.Store.{Store, store}
 use Rattle.model.specs.Plan.{Step, planEpochs}
 use Rattle.model.specs.Fresh.{Page, stored}
@@ -96,9 +96,9 @@ module _ (g : Layout) (pos : 0 < g .words) (fresh : ℕ → ℕ) (q : ℕ) where
 
 -- what is stored in place in a file's tree goes to live blocks
 pub in-place-live : (g : Layout) (b : List ℕ) (f : ℕ) → f < files g → (hook : ℕ → ℕ → ℕ → ℕ) (new : List ℕ) (c : ℕ) → 0 < size g b f
-    → All (λ s. 0 < occ (s .at / g .words) (liveBlocks g b)) (inPlace (g .words) b hook (root g b f % g .words) (root g b f / g .words) (size g b f) new c (rootAddress g b f))
+    → All (λ s. 0 < occ (s .at / g .words) (liveBlocks g b)) (inPlace (g .words) b hook (rootHeight g b f) (rootBlock g b f) (size g b f) new c (rootAddress g b f))
 unfolding fileBlocks rootBlocks
 in-place-live g b f f-lt hook new c live =
-    all-map {A = Store} (λ s. 0 < occ (s .at / g .words) (blocks (g .words) b (root g b f % g .words) (root g b f / g .words) (size g b f))) (λ s. 0 < occ (s .at / g .words) (liveBlocks g b))
-    (λ s z. omega (arith, z, file-live g b f (s .at / g .words) f-lt)) (inPlace (g .words) b hook (root g b f % g .words) (root g b f / g .words) (size g b f) new c (rootAddress g b f))
-    (in-place-blocks (g .words) b hook (root g b f % g .words) (root g b f / g .words) (size g b f) new c (rootAddress g b f) live)
+    all-map {A = Store} (λ s. 0 < occ (s .at / g .words) (blocks (g .words) b (rootHeight g b f) (rootBlock g b f) (size g b f))) (λ s. 0 < occ (s .at / g .words) (liveBlocks g b))
+    (λ s z. omega (arith, z, file-live g b f (s .at / g .words) f-lt)) (inPlace (g .words) b hook (rootHeight g b f) (rootBlock g b f) (size g b f) new c (rootAddress g b f))
+    (in-place-blocks (g .words) b hook (rootHeight g b f) (rootBlock g b f) (size g b f) new c (rootAddress g b f) live)

@@ -10,7 +10,7 @@ use lib.ListN.{length, getD, set, length-set}
 use Rattle.model.specs.Lists.{occ}
 use Rattle.model.specs.Layout.{Layout, Fits, files}
 use Rattle.model.specs.Tree.{cell}
-use Rattle.model.specs.Board.{rootBlocks, blockCount, trailer, inodeBlock, inodePointer, leaf, rootAddress, sizeAddress, root, size, fileBlocks, liveBlocks}
+use Rattle.model.specs.Board.{rootBlocks, blockCount, trailer, inodeBlock, inodePointer, leaf, rootAddress, sizeAddress, rootHeight, rootBlock, root, size, fileBlocks, liveBlocks}
 use Rattle.model.specs.Store.{Store, performed}
 use Rattle.model.proofs.Cases.{split}
 use Rattle.model.proofs.Perform.{All, address-block}
@@ -26,7 +26,7 @@ pub data Visible (g : Layout) (b : List ℕ) : ℕ → Type 0 where
 
 -- what is visible of a file's tree is the same on b and b′
 abbrev pub TreeSame : Layout → List ℕ → List ℕ → ℕ → Type 0
-TreeSame g b b′ f = agree (g .words) b b′ (root g b f % g .words) (root g b f / g .words) (size g b f)
+TreeSame g b b′ f = agree (g .words) b b′ (rootHeight g b f) (rootBlock g b f) (size g b f)
 
 -- a store that alters nothing visible on b
 abbrev pub Unseen : Layout → List ℕ → Store → Type 0
@@ -83,7 +83,7 @@ module _ (g : Layout) (fit : Fits g) where
     pointers = λ l h. refl;
     sizes = λ f h. refl;
     roots = λ f h v. refl;
-    trees = λ f h. agree-refl (g .words) (words-pos g fit) b (root g b f % g .words) (root g b f / g .words) (size g b f);
+    trees = λ f h. agree-refl (g .words) (words-pos g fit) b (rootHeight g b f) (rootBlock g b f) (size g b f);
   }
 
   pub same-trans : (b c d : List ℕ) → Same g b c → Same g c d → Same g b d
@@ -93,7 +93,7 @@ module _ (g : Layout) (fit : Fits g) where
     pointers = λ l h. s .pointers l h ∙ u .pointers l h;
     sizes = λ f h. s .sizes f h ∙ u .sizes f h;
     roots = λ f h v. s .roots f h v ∙ u .roots f h (omega (arith, v, s .sizes f h));
-    trees = λ f h. agree-trans (g .words) (words-pos g fit) b c d (root g b f % g .words) (root g b f / g .words) (size g b f) (s .trees f h)
+    trees = λ f h. agree-trans (g .words) (words-pos g fit) b c d (rootHeight g b f) (rootBlock g b f) (size g b f) (s .trees f h)
         (tree-found-by (g .words) (words-pos g fit) c d (root g c f) (root g b f) (size g c f) (size g b f) (sym (s .sizes f h)) (λ v. sym (s .roots f h (omega (arith, v, s .sizes f h)))) (u .trees f h));
   }
 
@@ -104,7 +104,7 @@ module _ (g : Layout) (fit : Fits g) where
       words-same c (set c a v) (sym (length-set c a v))
       (λ x x-seen. let x-b : Visible g b x = visible-back b c s x x-seen in dark-word (g .words) pos (λ w. w) b c a v x (s .lengths) (same-word b c s x x-b) (same-word b (set b a v) u x x-b))
       (λ f h. tree-found-by (g .words) pos c (set c a v) (root g b f) (root g c f) (size g b f) (size g c f) (s .sizes f h) (s .roots f h)
-      (dark-again (g .words) pos b c a v (root g b f % g .words) (root g b f / g .words) (size g b f) (s .lengths) (s .trees f h) (u .trees f h)))
+      (dark-again (g .words) pos b c a v (rootHeight g b f) (rootBlock g b f) (size g b f) (s .lengths) (s .trees f h) (u .trees f h)))
 
   unseen-from : (b c : List ℕ) (ss : List Store) → Same g b c → All (Unseen g b) ss → Same g b (performed c ss)
   unfolding performed All
@@ -131,4 +131,4 @@ module _ (g : Layout) (fit : Fits g) where
   frame-same b b′ len same = words-same b b′ len
       (λ x v. subst (λ (y : ℕ). getD b y 0 ≡ getD b′ y 0) (omega (arith, div-add-mod' x (g .words), mul-comm (g .words) (x / g .words)))
       (same (x / g .words) (visible-block b x v) (x % g .words) (mod-lt x (words-pos g fit))))
-      (λ f h. frame (g .words) (words-pos g fit) b b′ (root g b f % g .words) (root g b f / g .words) (size g b f) (λ k o. same k (inr (omega (arith, file-live g b f k h)))))
+      (λ f h. frame (g .words) (words-pos g fit) b b′ (rootHeight g b f) (rootBlock g b f) (size g b f) (λ k o. same k (inr (omega (arith, file-live g b f k h)))))

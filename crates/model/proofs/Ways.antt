@@ -3,7 +3,7 @@ use mathlib.Core.Path.{_≡_, refl, sym, ap, _∙_}
 use mathlib.Core.Logic.{inl, inr}
 use mathlib.Core.Bool.{Bool, true, false, not, cond, _&&_, _||_, false≢true}
 use mathlib.Core.List.{List, [], _∷_, _++_, append-nil}
-use Prim.Native.Nat.{ℕ, zero, suc, _+_, _-_, _/_, _%_, _≤_, _<_, max}
+use Prim.Native.Nat.{ℕ, zero, suc, _+_, _-_, _/_, _≤_, _<_, max}
 use native.Mathlib.Omega.{arith}
 use lib.ListN.{length, take, replicate}
 use lib.Dec.{T, leb, eqb}
@@ -13,7 +13,7 @@ use Rattle.model.specs.declared.Inode.{Inode}
 use Rattle.model.specs.Lists.{tabulate, sum, occ}
 use Rattle.model.specs.Layout.{Layout, Fits}
 use Rattle.model.specs.Tree.{live, least}
-use Rattle.model.specs.Board.{leaf, rootAddress, sizeAddress, root, size, inodeOf, walkTo, contents, liveBlocks}
+use Rattle.model.specs.Board.{leaf, rootAddress, sizeAddress, rootHeight, rootBlock, root, size, inodeOf, walkTo, contents, liveBlocks}
 use Rattle.model.specs.Store.{Store, store}
 use Rattle.model.specs.Plan.{Plan, plan, Step, step}
 use Rattle.model.specs.Fresh.{Page, stored, freshPointer}
@@ -147,8 +147,8 @@ module _ {g : Layout} {b : List ℕ} {f o : ℕ} {new : List ℕ} (w : Writing g
   -- the tail of a file of size s above 0
   abbrev tailOf : ℕ → Plan
   tailOf s =
-      let ps : List Page = tailPages (g .words) b fresh (root g b f % g .words) (root g b f / g .words) s new c in
-      let others : List Store = inPlace (g .words) b (λ h l i. freshPointer (g .words) fresh h 0 l i) (root g b f % g .words) (root g b f / g .words) s new c (rootAddress g b f) in
+      let ps : List Page = tailPages (g .words) b fresh (rootHeight g b f) (rootBlock g b f) s new c in
+      let others : List Store = inPlace (g .words) b (λ h l i. freshPointer (g .words) fresh h 0 l i) (rootHeight g b f) (rootBlock g b f) s new c (rootAddress g b f) in
       plan (step (stored (g .words) fresh ps c ++ others) (sizeAddress g b f) (s + length new) ∷ []) (c + length ps)
 
   tail-live : (s : ℕ) → 0 < s → tail g fresh b inode s o new c ≡ tailOf s
@@ -156,10 +156,10 @@ module _ {g : Layout} {b : List ℕ} {f o : ℕ} {new : List ℕ} (w : Writing g
   tail-live zero l = absurd (omega arith)
   tail-live (suc s) l = refl
 
-  tail-parts : isTail g b inode o ≡ true → 0 < size g b f → (o ≡ size g b f) × T (atBlock (walkLive (g .words) b (root g b f % g .words) (root g b f / g .words) (size g b f)))
+  tail-parts : isTail g b inode o ≡ true → 0 < size g b f → (o ≡ size g b f) × T (atBlock (walkLive (g .words) b (rootHeight g b f) (rootBlock g b f) (size g b f)))
   unfolding isTail live
   tail-parts e l =
-      let path : Bool = atBlock (walkLive (g .words) b (root g b f % g .words) (root g b f / g .words) (size g b f)) in
+      let path : Bool = atBlock (walkLive (g .words) b (rootHeight g b f) (rootBlock g b f) (size g b f)) in
       let both : (eqb o (size g b f) && path) ≡ true = passes (size g b f) (eqb o (size g b f) && path) l e in
       (eqb-true o (size g b f) (true-left (eqb o (size g b f)) path both), rw (true-right (eqb o (size g b f)) path both) tt)
     where
@@ -173,7 +173,7 @@ module _ {g : Layout} {b : List ℕ} {f o : ℕ} {new : List ℕ} (w : Writing g
       (record { pages = _; others = _; is = refl; count = refl; others-live = (inode-live-at (rootAddress g b f) (root-block g fit b f), tt); commit-live = inode-live-at (sizeAddress g b f) (size-block g fit b f) })
       (λ q. (ap (used fresh q c) (sym (length-build-null (g .words) (words-pos g fit) b fresh (least (g .words) (g .height) (o + length new)) 0 o new c)) ∙ used-more q _, refl))
 
-  live-tail-way : 0 < size g b f → o ≡ size g b f → T (atBlock (walkLive (g .words) b (root g b f % g .words) (root g b f / g .words) (size g b f))) → Good (tailOf (size g b f)) []
+  live-tail-way : 0 < size g b f → o ≡ size g b f → T (atBlock (walkLive (g .words) b (rootHeight g b f) (rootBlock g b f) (size g b f))) → Good (tailOf (size g b f)) []
   unfolding plan step store occ
   live-tail-way l e path room = one-good {m = size g b f + length new} (rw e (tail-good (w .on) (rw e at w) l path (rw e at (reach l)) supply room)) (omega arith) (record {
     pages = _;
@@ -182,7 +182,7 @@ module _ {g : Layout} {b : List ℕ} {f o : ℕ} {new : List ℕ} (w : Writing g
     count = refl;
     others-live = in-place-live g b f file (λ h l i. freshPointer (g .words) fresh h 0 l i) new c l;
     commit-live = inode-live-at (sizeAddress g b f) (size-block g fit b f);
-  }) (λ q. (ap (used fresh q c) (sym (length-tail (g .words) (words-pos g fit) b fresh (root g b f % g .words) (root g b f / g .words) (size g b f) new c)) ∙ used-more q _, refl))
+  }) (λ q. (ap (used fresh q c) (sym (length-tail (g .words) (words-pos g fit) b fresh (rootHeight g b f) (rootBlock g b f) (size g b f) new c)) ∙ used-more q _, refl))
 
   tail-way : isTail g b inode o ≡ true → Good (tail g fresh b inode (size g b f) o new c) []
   tail-way e = elim (split (size g b f) 0) [
@@ -191,7 +191,7 @@ module _ {g : Layout} {b : List ℕ} {f o : ℕ} {new : List ℕ} (w : Writing g
   ]
 
   -- 5
-  inside-way : o + length new ≤ size g b f → Good (shadowInside g fresh b inode o new c) (insideBlocks (g .words) b (root g b f % g .words) (root g b f / g .words) (size g b f) o (length new))
+  inside-way : o + length new ≤ size g b f → Good (shadowInside g fresh b inode o new c) (insideBlocks (g .words) b (rootHeight g b f) (rootBlock g b f) (size g b f) o (length new))
   unfolding shadowInside plan step store All
   inside-way l room = one-good (inside-good w some l (reach (omega arith)) supply room) (omega arith) (record {
     pages = _;
@@ -204,10 +204,10 @@ module _ {g : Layout} {b : List ℕ} {f o : ℕ} {new : List ℕ} (w : Writing g
 
   -- 6
   leaf-way : 0 < size g b f → size g b f < o + length new → Good (shadowWithLength g fresh b inode o new c)
-      (rootAddress g b f / g .words ∷ pathBlocks (g .words) b (root g b f % g .words) (root g b f / g .words) (size g b f) o (length new))
+      (rootAddress g b f / g .words ∷ pathBlocks (g .words) b (rootHeight g b f) (rootBlock g b f) (size g b f) o (length new))
   unfolding shadowWithLength plan
   leaf-way l m room = one-good (leaf-good w some l m (reach l) supply room) refl (leaf-takes g fresh b f o new c (w .on))
-      (λ q. (ap (used fresh q c) (omega arith), ap (λ (x : ℕ). occ q (x ∷ pathBlocks (g .words) b (root g b f % g .words) (root g b f / g .words) (size g b f) o (length new))) (sym (root-block g fit b f))))
+      (λ q. (ap (used fresh q c) (omega arith), ap (λ (x : ℕ). occ q (x ∷ pathBlocks (g .words) b (rootHeight g b f) (rootBlock g b f) (size g b f) o (length new))) (sym (root-block g fit b f))))
 
   -- whichever it is
   not-tail : isTail g b inode o ≡ false → 0 < size g b f
@@ -223,8 +223,8 @@ module _ {g : Layout} {b : List ℕ} {f o : ℕ} {new : List ℕ} (w : Writing g
     where
       by : (u : Bool) → isTail g b inode o ≡ u
           → Good (cond u (tail g fresh b inode (size g b f) o new c) (cond (leb (o + length new) (size g b f)) (shadowInside g fresh b inode o new c) (shadowWithLength g fresh b inode o new c)))
-          (cond u [] (cond (leb (o + length new) (size g b f)) (insideBlocks (g .words) b (root g b f % g .words) (root g b f / g .words) (size g b f) o (length new))
-          (rootAddress g b f / g .words ∷ pathBlocks (g .words) b (root g b f % g .words) (root g b f / g .words) (size g b f) o (length new))))
+          (cond u [] (cond (leb (o + length new) (size g b f)) (insideBlocks (g .words) b (rootHeight g b f) (rootBlock g b f) (size g b f) o (length new))
+          (rootAddress g b f / g .words ∷ pathBlocks (g .words) b (rootHeight g b f) (rootBlock g b f) (size g b f) o (length new))))
       by true z = tail-way z
       by false z = elim (split (o + length new) (size g b f)) [
         | inl l ↦ rw (le-leb (o + length new) (size g b f) l) (inside-way l)
