@@ -92,7 +92,7 @@ module _ (g : Layout) (fit : Fits g) (b : List ℕ) where
   trailer-off e = omega (arith, counted g fit b (rw e tt) .blocks-least)
 
   rooted : T (accepted g b) → Rooted g b
-  rooted t = let ok = facts g fit b t in record { trailer-there = omega (arith, ok .sizes .blocks-least); inode-there = ok .inode .0; leaves-there = ok .leaf-in }
+  rooted t = let ok = facts g fit b t in record { trailer-there = omega (arith, ok .sizes .blocks-least); inode-there = ok .pointers .inode .0; leaves-there = ok .pointers .leaf-in }
 
   file-found : Rooted g b → (f : ℕ) → f < files g → Found g b f
   file-found r f l = record { trailer-there = r .trailer-there; inode-there = r .inode-there; leaf-there = r .leaves-there (f / g .inodes) (leaf-of g fit f l) .0 }

@@ -132,14 +132,18 @@ pub record FileOn (g : Layout) (b : List ℕ) (f : ℕ) : Type 0 where
   pub board : T (accepted g b)
   pub file : f < files g
 
+-- the pointers are as they must be, so that live blocks are in range
+pub record Pointers (g : Layout) (b : List ℕ) : Type 0 where
+  pub inode : Ranged g b (inodeBlock g b)
+  pub leaf-in : (l : ℕ) → l < g .leaves → Ranged g b (leaf g b l)
+  pub tree : (f : ℕ) → f < files g → T (sound (g .words) b (blockCount g b - 1) (rootHeight g b f) (rootBlock g b f) (size g b f))
+
 -- an accepted board, as facts on numbers
 pub record Facts (g : Layout) (b : List ℕ) : Type 0 where
   pub sizes : Counted g b
-  pub inode : Ranged g b (inodeBlock g b)
-  pub leaf-in : (l : ℕ) → l < g .leaves → Ranged g b (leaf g b l)
+  pub pointers : Pointers g b
   pub most : (f : ℕ) → f < files g → size g b f ≤ greatest g
   pub low : (f : ℕ) → f < files g → 0 < size g b f → rootHeight g b f ≤ g .height
-  pub tree : (f : ℕ) → f < files g → T (sound (g .words) b (blockCount g b - 1) (rootHeight g b f) (rootBlock g b f) (size g b f))
   pub once : (q : ℕ) → occ q (liveBlocks g b) ≤ 1
 
 module _ (g : Layout) (fit : Fits g) (b : List ℕ) where
@@ -148,11 +152,9 @@ module _ (g : Layout) (fit : Fits g) (b : List ℕ) where
       let a = accepted-parts g b t in
       record {
         sizes = counted g fit b (a .words);
-        inode = inode-range g b (a .trailers);
-        leaf-in = λ l u. leaf-range g b l (a .leaves l u);
+        pointers = record { inode = inode-range g b (a .trailers); leaf-in = λ l u. leaf-range g b l (a .leaves l u); tree = λ f u. file-tree g b f (a .files-sound f u) };
         most = λ f u. file-parts g b f (a .files-sound f u) .0;
         low = λ f u live. root-sound-parts g b (g .height) (blockCount g b - 1) (root g b f) (size g b f) live (file-parts g b f (a .files-sound f u) .1) .0;
-        tree = λ f u. file-tree g b f (a .files-sound f u);
         once = a .once;
       }
 

@@ -82,7 +82,7 @@ module _ {g : Layout} {b : List ℕ} {f : ℕ} (on : FileOn g b f) where
 
   pub spot-ranged : (a : ℕ) → Spot g b f a → Ranged g b (a / g .words)
   spot-ranged a s = elim (spot-block a s) [
-    | inl e ↦ rw e (ok .leaf-in (f / g .inodes) (leaf-of g fit f file))
+    | inl e ↦ rw e (ok .pointers .leaf-in (f / g .inodes) (leaf-of g fit f file))
     | inr t ↦ file-range g fit b ok f (a / g .words) file t
   ]
 

@@ -202,7 +202,7 @@ module _ (g : Layout) (fit : Fits g) (b : List ℕ) (t : T (accepted g b)) where
   pub hidden-in-range : (s : Store) → T (hidden g b s) → Ranged g b (s .at / g .words)
   hidden-in-range s u = elim (hidden-place g b s u) [
     | free-block e ↦ (e .0, e .1)
-    | empty-root f h e z ↦ rw (e, root-block g fit b f) (facts g fit b t .leaf-in (f / g .inodes) (leaf-of g fit f h))
+    | empty-root f h e z ↦ rw (e, root-block g fit b f) (facts g fit b t .pointers .leaf-in (f / g .inodes) (leaf-of g fit f h))
     | in-tree f h i ↦ file-range g fit b (facts g fit b t) f (s .at / g .words) h (under-inside (on h) s i)
   ]
 

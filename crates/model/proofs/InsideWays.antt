@@ -107,7 +107,7 @@ module _ {g : Layout} {b : List ℕ} {f o : ℕ} {new : List ℕ} (w : Writing g
     single-live = spot-live on a spot
 
     single-file : FileCommit g b b₂ f (spliced g b f o new (size g b f)) (λ q. 0) (λ q. 0)
-    single-file = written-commit fit (sym (length-set b a v)) written (ok .tree f file)
+    single-file = written-commit fit (sym (length-set b a v)) written (ok .pointers .tree f file)
 
     pub single-good : GoodTurn g b f (step [] a v) (spliced g b f o new (size g b f)) (λ q. 0) (λ q. 0)
     unfolding step store committed performed All occ
@@ -218,7 +218,7 @@ module _ {g : Layout} {b : List ℕ} {f o : ℕ} {new : List ℕ} (w : Writing g
       ]
 
       low-zero : sh .at ≢ rootAddress g b f → low ≡ 0
-      low-zero d = elim (descend-low (g .words) pos fresh b new c (blockCount g b - 1) (rootHeight g b f) (rootBlock g b f) (size g b f) o (rootAddress g b f) (omega arith) (omega arith) (ok .tree f file)) [
+      low-zero d = elim (descend-low (g .words) pos fresh b new c (blockCount g b - 1) (rootHeight g b f) (rootBlock g b f) (size g b f) o (rootAddress g b f) (omega arith) (omega arith) (ok .pointers .tree f file)) [
         | inl e ↦ absurd (d e)
         | inr z ↦ z
       ]
@@ -254,7 +254,7 @@ module _ {g : Layout} {b : List ℕ} {f o : ℕ} {new : List ℕ} (w : Writing g
       }
 
       inside-file : FileCommit g b done f (spliced g b f o new (size g b f)) (λ q. used fresh q c (length (sh .pages))) (λ q. occ q given)
-      inside-file = written-commit fit len inside-written (ok .tree f file)
+      inside-file = written-commit fit len inside-written (ok .pointers .tree f file)
 
       pub inside-good : GoodTurn g b f (step ss (sh .at) (g .words * top + low)) (spliced g b f o new (size g b f)) (λ q. used fresh q c (length (sh .pages))) (λ q. occ q given)
       unfolding step store committed done c₁ value

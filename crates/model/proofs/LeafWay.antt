@@ -175,7 +175,7 @@ module _ {g : Layout} {b : List ℕ} {f o : ℕ} {new : List ℕ} (w : Writing g
   unfolding trailer b₂
   trailers j l =
       let count : blockCount g b ≡ blockCount g c₁ = count-kept g b c₁ (shown-same .lengths) in
-      shown-same .trailers j l ∙ sym (cell-away (g .words) pos c₁ a (g .words * copied) (blockCount g c₁ - 1) j l (λ x. omega (arith, ok .inode .1, count, commit-block)))
+      shown-same .trailers j l ∙ sym (cell-away (g .words) pos c₁ a (g .words * copied) (blockCount g c₁ - 1) j l (λ x. omega (arith, ok .pointers .inode .1, count, commit-block)))
       ∙ ap (λ (x : ℕ). cell (g .words) b₂ (x - 1) j) (sym count ∙ count-kept g b b₂ len)
 
   inode : inodeBlock g b ≡ inodeBlock g b₂
@@ -191,7 +191,7 @@ module _ {g : Layout} {b : List ℕ} {f o : ℕ} {new : List ℕ} (w : Writing g
   pointer-new : inodePointer g b₂ l₀ ≡ g .words * copied
   unfolding inodePointer cell b₂
   pointer-new = ap (λ (x : ℕ). getD b₂ (g .words * x + l₀) 0) (sym inode)
-      ∙ getD-set-same c₁ a (g .words * copied) 0 (rw (← (shown-same .lengths)) (address-on-board g fit b (ok .sizes) a (omega (arith, ok .inode .1, commit-block))))
+      ∙ getD-set-same c₁ a (g .words * copied) 0 (rw (← (shown-same .lengths)) (address-on-board g fit b (ok .sizes) a (omega (arith, ok .pointers .inode .1, commit-block))))
 
   leaf-new : leaf g b₂ l₀ ≡ copied
   unfolding leaf
@@ -297,7 +297,7 @@ module _ {g : Layout} {b : List ℕ} {f o : ℕ} {new : List ℕ} (w : Writing g
     leaves-stay = leaf-stays;
     leaf-moved = λ q. omega (arith, ap (one q) leaf-new);
     others = others;
-    file = written-commit fit len written (ok .tree f file);
+    file = written-commit fit len written (ok .pointers .tree f file);
     spare = λ q. omega (arith, supply-once supply (ok .once) (length ps + 1) (omega arith) q, used-add fresh q c (length ps) 1, used-one fresh q (c + length ps));
   }
 
@@ -317,7 +317,7 @@ module _ {g : Layout} {b : List ℕ} {f o : ℕ} {new : List ℕ} (w : Writing g
     good = record {
       hides = pages-hidden fit board supply pages pages-room;
       once = pages-once fit board supply pages pages-room;
-      within = rw commit-block (ok .inode);
+      within = rw commit-block (ok .pointers .inode);
       outcome = one-file (w .on) moved;
     };
     lives = leaf-lives;

@@ -11,8 +11,8 @@ use Rattle.model.specs.Layout.{Layout, files}
 use Rattle.model.specs.Board.{blockCount, inodeBlock, liveBlocks, trailerSound, leafSound, fileSound}
 use Rattle.model.proofs.Cases.{every-of, true-left, true-right}
 use Rattle.model.proofs.Counting.{one-same}
-use Rattle.model.proofs.Accepting.{inode-range, leaves-range, file-tree}
-use Rattle.model.proofs.Ranges.{Pointers, live-in}
+use Rattle.model.proofs.Accepting.{Pointers, inode-range, leaves-range, file-tree}
+use Rattle.model.proofs.Ranges.{live-in}
 
 -- each of the blocks lies below top
 abbrev pub below : ℕ → List ℕ → Bool
@@ -32,8 +32,8 @@ module _ (g : Layout) (b : List ℕ) where
       let leaves : Bool = every (g .leaves) (leafSound g b) in
       let trees : Bool = every (files g) (fileSound g b) in
       let ok : Pointers g b = record {
-        inode-in = inode-range g b (rw t tt);
-        leaves-in = leaves-range g b (true-left leaves trees e);
-        trees-sound = λ f u. file-tree g b f (every-of (files g) (fileSound g b) (rw (true-right leaves trees e) tt) f u);
+        inode = inode-range g b (rw t tt);
+        leaf-in = leaves-range g b (true-left leaves trees e);
+        tree = λ f u. file-tree g b f (every-of (files g) (fileSound g b) (rw (true-right leaves trees e) tt) f u);
       } in
       below-of (blockCount g b - 1) (liveBlocks g b) (λ q o. live-in g pos b ok q o .1)

@@ -14,7 +14,7 @@ use Rattle.model.proofs.Counting.{one-other, occ-joined, one-some}
 use Rattle.model.proofs.Trees.{childBlocks}
 use Rattle.model.proofs.Agree.{sound-root, sound-child}
 use Rattle.model.proofs.Shown.{words-pos, occ-live}
-use Rattle.model.proofs.Accepting.{Ranged, Facts}
+use Rattle.model.proofs.Accepting.{Ranged, Pointers, Facts}
 
 -- the blocks of a tree whose pointers are as they must be
 module _ (W : ℕ) (pos : 0 < W) (b : List ℕ) (top : ℕ) where
@@ -32,35 +32,26 @@ module _ (W : ℕ) (pos : 0 < W) (b : List ℕ) (top : ℕ) where
         tree-range h (cell W b (suc k) (c .0) / W) (suc n - c .0 * span W h) x (sound-child W pos top b h (suc k) (suc n) t (c .0) (c .1) .1) (c .2)
   ]
 
--- what the pointers of a board must be so that its live blocks are in range
-pub record Pointers (g : Layout) (b : List ℕ) : Type 0 where
-  pub inode-in : Ranged g b (inodeBlock g b)
-  pub leaves-in : (l : ℕ) → l < g .leaves → Ranged g b (leaf g b l)
-  pub trees-sound : (f : ℕ) → f < files g → T (sound (g .words) b (blockCount g b - 1) (rootHeight g b f) (rootBlock g b f) (size g b f))
-
 module _ (g : Layout) (pos : 0 < g .words) (b : List ℕ) (ok : Pointers g b) where
   file-in : (f x : ℕ) → f < files g → 0 < occ x (fileBlocks g b f) → Ranged g b x
   unfolding fileBlocks rootBlocks
-  file-in f x h o = tree-range (g .words) pos b (blockCount g b - 1) (rootHeight g b f) (rootBlock g b f) (size g b f) x (ok .trees-sound f h) o
+  file-in f x h o = tree-range (g .words) pos b (blockCount g b - 1) (rootHeight g b f) (rootBlock g b f) (size g b f) x (ok .tree f h) o
 
   pub live-in : (x : ℕ) → 0 < occ x (liveBlocks g b) → Ranged g b x
   live-in x o = elim (decide x (inodeBlock g b)) [
-    | inl e ↦ rw e (ok .inode-in)
+    | inl e ↦ rw e (ok .inode)
     | inr d ↦ elim (split (sum (g .leaves) (λ l. one x (leaf g b l))) 0) [
       | inl z ↦ let c = sum-some (files g) (λ f. occ x (fileBlocks g b f)) (omega (arith, o, occ-live g b x, one-other x (inodeBlock g b) d)) in
           file-in (c .0) x (c .1) (c .2)
       | inr z ↦ let c = sum-some (g .leaves) (λ l. one x (leaf g b l)) z in
-          rw (one-some x (leaf g b (c .0)) (c .2)) (ok .leaves-in (c .0) (c .1))
+          rw (one-some x (leaf g b (c .0)) (c .2)) (ok .leaf-in (c .0) (c .1))
     ]
   ]
 
 -- on an accepted board they are so
 module _ (g : Layout) (fit : Fits g) (b : List ℕ) (ok : Facts g b) where
-  pointers : Pointers g b
-  pointers = record { inode-in = ok .inode; leaves-in = ok .leaf-in; trees-sound = ok .tree }
-
   pub file-range : (f x : ℕ) → f < files g → 0 < occ x (fileBlocks g b f) → Ranged g b x
-  file-range = file-in g (words-pos g fit) b pointers
+  file-range = file-in g (words-pos g fit) b (ok .pointers)
 
   pub live-range : (x : ℕ) → 0 < occ x (liveBlocks g b) → Ranged g b x
-  live-range = live-in g (words-pos g fit) b pointers
+  live-range = live-in g (words-pos g fit) b (ok .pointers)

@@ -197,7 +197,7 @@ module _ {g : Layout} {b : List ℕ} {f : ℕ} (on : FileOn g b f) where
     most = omega (arith, ok .most f file);
     past = λ i u v. splice-none 0 [] 0 i refl;
     change = shrink-changed (g .words) pos b b (blockCount g b - 1) (rootHeight g b f) (rootBlock g b f) (size g b f) n 0 less (agree-refl (g .words) pos b _ _ _);
-    fine = ok .tree f file;
+    fine = ok .pointers .tree f file;
     spare = λ q. omega (arith, ok .once q);
   })
 
@@ -252,7 +252,7 @@ module _ {g : Layout} {b : List ℕ} {f : ℕ} (on : FileOn g b f) where
         visible = same clears clears-hidden clears-once .trees f file;
         stands = stands clears clears-hidden clears-once;
       }));
-      fine = ok .tree f file;
+      fine = ok .pointers .tree f file;
       spare = λ q. omega (arith, ok .once q);
     })
 
@@ -313,7 +313,7 @@ module _ {g : Layout} {b : List ℕ} {f : ℕ} (on : FileOn g b f) where
                   stands = all-right Stood (stored (g .words) fresh tails c) others all-stand;
                 }) (w .small) (rw (← taken) room)
                 (held-of-all (g .words) fresh (performed b tail-epoch) tails c (all-left Stood (stored (g .words) fresh tails c) others all-stand)) path);
-            fine = ok .tree f file;
+            fine = ok .pointers .tree f file;
             spare = λ q. rw (← taken) (supply-once supply (ok .once) (length tails) room q);
           })
 
