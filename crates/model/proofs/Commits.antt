@@ -16,7 +16,7 @@ use Rattle.model.proofs.Cases.{split, decide, and-both, tabulate-cong}
 use Rattle.model.proofs.Sums.{sum-cong, sum-add, only, only-same, only-other, sum-only, sum-only-at}
 use Rattle.model.proofs.Agree.{byteAt, agree, agree-none, agree-trans, seen-live, seen-dead, blocks-none, byteAt-past}
 use Rattle.model.proofs.Changed.{Changed}
-use Rattle.model.proofs.Grown.{Grown}
+use Rattle.model.proofs.Levels.{Grown}
 use Rattle.model.proofs.Shown.{Same, rootByte, root-byte-in, root-byte-past, contents-bytes, root-blocks, root-byte, root-walk, root-sound, words-pos, occ-live, leaf-of, count-kept, words-kept}
 use Rattle.model.proofs.Accepting.{FileOn, accepted-parts, parts-accepted, file-parts, root-sound-parts}
 

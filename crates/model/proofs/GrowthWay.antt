@@ -24,16 +24,16 @@ use Rattle.model.proofs.Trees.{live-some}
 use Rattle.model.proofs.Addresses.{used-none}
 use Rattle.model.proofs.Agree.{agree, agree-away, agree-blocks, agree-trans}
 use Rattle.model.proofs.Built.{held, used}
-use Rattle.model.proofs.Grown.{Grown, grown}
+use Rattle.model.proofs.Levels.{Grown, grown}
 use Rattle.model.proofs.Shown.{Same, words-pos, leaf-of, same-address, count-kept, inode-kept, root-block, leaf-live}
 use Rattle.model.proofs.Accepting.{FileOn, accepted-parts, Facts, facts}
-use Rattle.model.proofs.Commits.{FileCommit, grown-commit, Others, others-from}
-use Rattle.model.proofs.Apart.{Spot, leaf-not-file, spot-ranged, spot-live, spot-trailer, spot-address, spot-size, spot-others, stored-root}
-use Rattle.model.proofs.Committing.{on-same, spot-same, spot-commit, spot-counts}
+use Rattle.model.proofs.Commits.{FileCommit, grown-commit}
+use Rattle.model.proofs.Apart.{Spot, leaf-not-file, spot-ranged, spot-live, spot-trailer, spot-address, spot-size, stored-root}
+use Rattle.model.proofs.SpotCommits.{on-same, spot-same, spot-commit, spot-counts}
 use Rattle.model.proofs.Supplied.{Supply, supply-once}
 use Rattle.model.proofs.Steps.{committed, allCommitted, performed-steps}
 use Rattle.model.proofs.GoodSteps.{GoodStep, pages-hidden, pages-once, pages-same, pages-held}
-use Rattle.model.proofs.Taking.{Takes}
+use Rattle.model.proofs.StepBlocks.{Takes}
 use Rattle.model.proofs.Writing.{Writing, Spanned, Growing}
 
 -- ---- The plan
@@ -215,15 +215,6 @@ module _ {g : Layout} {b : List ℕ} {f e : ℕ} (w : Growing g b f e) {fresh : 
     pub growth-size : size g (committed b (growthStep g fresh b f h)) f ≡ size g b f
     unfolding step store committed done c₁ value
     growth-size = sym size-done
-
-    -- the other files are as they were
-    pub growth-others : Others g b (committed b (growthStep g fresh b f h)) f
-    unfolding step store committed done c₁ value
-    growth-others = others-from pos shown-same (spot-others on₁ (rootAddress g b f) value commit-spot)
-
-    pub growth-length : length (committed b (growthStep g fresh b f h)) ≡ length b
-    unfolding step store committed done c₁ value
-    growth-length = sym len
 
     -- the inode is where it was
     pub growth-inode : inodeBlock g (committed b (growthStep g fresh b f h)) ≡ inodeBlock g b

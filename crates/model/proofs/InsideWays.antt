@@ -28,7 +28,7 @@ use Rattle.model.proofs.Accepting.{FileOn, Facts, facts, address-on-boa
 use Rattle.model.proofs.Visible.{same-refl}
 use Rattle.model.proofs.Commits.{FileCommit, Written, spliced, written-commit}
 use Rattle.model.proofs.Apart.{Spot, spot-ranged, spot-live, spot-root, spot-size, stored-root, leaf-not-file, tree-not-inode-of}
-use Rattle.model.proofs.Committing.{on-same, spot-same, spot-commit, spot-counts}
+use Rattle.model.proofs.SpotCommits.{on-same, spot-same, spot-commit, spot-counts}
 use Rattle.model.proofs.Supplied.{Supply, supply-once, stored-keeps}
 use Rattle.model.proofs.Steps.{committed}
 use Rattle.model.proofs.Writing.{Writing}

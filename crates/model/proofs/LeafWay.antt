@@ -32,7 +32,7 @@ use Rattle.model.proofs.Apart.{inode-not-leaf, file-not-inode, inodes-a
 use Rattle.model.proofs.Supplied.{Supply, supply-once, stored-keeps}
 use Rattle.model.proofs.Steps.{committed}
 use Rattle.model.proofs.GoodSteps.{GoodTurn, pages-hidden, pages-once, pages-same, pages-held}
-use Rattle.model.proofs.Taking.{Takes}
+use Rattle.model.proofs.StepBlocks.{Takes}
 use Rattle.model.proofs.Writing.{Writing}
 
 -- ---- The step

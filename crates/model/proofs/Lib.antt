@@ -25,7 +25,7 @@ pub mod InPlaceStores
 pub mod Tailed
 pub mod Descent
 pub mod Shrunk
-pub mod Grown
+pub mod Levels
 -- Boards: what is shown, what acceptance says, format, free blocks, commits, hidden stores
 pub mod Shown
 pub mod Accepting
@@ -37,24 +37,24 @@ pub mod Visible
 pub mod Commits
 pub mod Apart
 pub mod HiddenStores
-pub mod Committing
+pub mod SpotCommits
 pub mod Supplied
 -- Plans: safe plans obey the power-cut rule; what is asked of a write; every way of planning is one good step, or growth and another
 pub mod Safety
 pub mod Steps
 pub mod GoodSteps
-pub mod Taking
+pub mod StepBlocks
 pub mod Writing
 pub mod InsideWays
 pub mod SizeWays
 pub mod LeafWay
 pub mod GrowthWay
-pub mod GrownBoard
+pub mod AfterGrowth
 pub mod Ways
 pub mod Plans
--- The rules of specs/Claims.antt
+-- The rules of specs/Claims.antt and specs/Orders.antt
 pub mod Rules
-pub mod TakenBlocks
+pub mod WayNeeds
 pub mod PastEnd
 pub mod FormatCut
 -- The marked examples by computation

@@ -31,11 +31,11 @@ use Rattle.model.proofs.Accepting.{FileOn}
 use Rattle.model.proofs.Supplied.{Supply}
 use Rattle.model.proofs.Steps.{committed, allCommitted, length-committed}
 use Rattle.model.proofs.GoodSteps.{GoodStep, GoodTurn, GoodSteps, StepTo, InBlocks, theFile, onlyFile, only-file, only-others, step-one, step-quiet}
-use Rattle.model.proofs.Taking.{Takes, blocksOf, takes-blocks, steps-blocks, in-place-live}
+use Rattle.model.proofs.StepBlocks.{Takes, blocksOf, takes-blocks, steps-blocks, in-place-live}
 use Rattle.model.proofs.Writing.{Writing, Spanned, Growing}
 use Rattle.model.proofs.SizeWays.{shorten-good, lengthen-empty-good, lengthen-good}
 use Rattle.model.proofs.GrowthWay.{growthStep, growth-performed, growth-takes, growth-counts, growing-more, growing-cases, growth-good, growth-reaches, growth-supply}
-use Rattle.model.proofs.GrownBoard.{single-past, grown-board}
+use Rattle.model.proofs.AfterGrowth.{single-past, grown-board}
 use Rattle.model.proofs.Ways.{length-contents, lengthened, spliced-cuts, spliced-lengthens, OneStep, single-way, way-good, taken-from}
 
 -- ---- Good plans

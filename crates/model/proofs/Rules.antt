@@ -42,7 +42,7 @@ use Rattle.model.proofs.HiddenStores.{hidden-in-range}
 use Rattle.model.proofs.Safety.{none-safe, Stays, Settled, settled-one}
 use Rattle.model.proofs.Steps.{committed, length-committed, allCommitted, Reads, SafeSteps, one-step, steps-stores, front, front-last, front-all, performed-steps, steps-rule, steps-whole}
 use Rattle.model.proofs.GoodSteps.{StepTo, InBlocks, theFile, onlyFile, only-file, only-others, step-safe, GoodSteps}
-use Rattle.model.proofs.Taking.{blocksOf}
+use Rattle.model.proofs.StepBlocks.{blocksOf}
 use Rattle.model.proofs.Writing.{Writing}
 use Rattle.model.proofs.Plans.{write-good, length-good, GoodPlan}
 

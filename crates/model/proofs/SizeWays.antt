@@ -36,7 +36,7 @@ use Rattle.model.proofs.Shown.{Same, words-pos, leaf-of, leaf-live, fil
 use Rattle.model.proofs.Accepting.{FileOn, Facts, facts}
 use Rattle.model.proofs.Commits.{FileCommit, Had, had-blocks, Written, spliced, written-commit}
 use Rattle.model.proofs.Apart.{Spot, spot-ranged, spot-root, stored-size, leaf-not-file}
-use Rattle.model.proofs.Committing.{on-same, spot-same, spot-commit, spot-counts}
+use Rattle.model.proofs.SpotCommits.{on-same, spot-same, spot-commit, spot-counts}
 use Rattle.model.proofs.Supplied.{Supply, supply-once, stored-hidden, stored-apart, stored-not-live}
 use Rattle.model.proofs.Steps.{committed}
 use Rattle.model.proofs.Writing.{Writing}

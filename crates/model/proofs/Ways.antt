@@ -33,7 +33,7 @@ use Rattle.model.proofs.Commits.{spliced}
 use Rattle.model.proofs.Accepting.{FileOn}
 use Rattle.model.proofs.Supplied.{Supply}
 use Rattle.model.proofs.GoodSteps.{GoodStep, GoodTurn}
-use Rattle.model.proofs.Taking.{Takes, in-place-live}
+use Rattle.model.proofs.StepBlocks.{Takes, in-place-live}
 use Rattle.model.proofs.Writing.{Writing, Spanned}
 use Rattle.model.proofs.InsideWays.{single-live, single-good, inside-live, inside-good}
 use Rattle.model.proofs.SizeWays.{tail-good, empty-tail-good}

@@ -1,5 +1,4 @@
--- Fresh blocks. Of the free blocks a plan stores to the lowest, as many as it takes, and to no other; how many that is; and after it the live
--- and the free blocks still make B.
+-- How many fresh blocks each way of planning takes; and after a plan the live and the free blocks still make B.
 use mathlib.Core.Path.{_≡_, _∙_, ap}
 use mathlib.Core.Logic.{inl, inr}
 use mathlib.Core.List.{List}
@@ -24,7 +23,7 @@ use Rattle.model.proofs.Built.{length-build, length-build-null}
 use Rattle.model.proofs.Paths.{fresh-quiet}
 use Rattle.model.proofs.Tailed.{length-tail}
 use Rattle.model.proofs.Descent.{descend-on, descend-stop}
-use Rattle.model.proofs.Grown.{length-levels}
+use Rattle.model.proofs.Levels.{length-levels}
 use Rattle.model.proofs.Shown.{count-kept}
 use Rattle.model.proofs.Census.{census}
 use Rattle.model.proofs.Rules.{accuracy-rule}

@@ -24,7 +24,7 @@ use Rattle.model.proofs.Spans.{span-power, span-pos, span-mono, child, 
 use Rattle.model.proofs.Perform.{length-tabulate}
 use Rattle.model.proofs.Trees.{walk-null}
 use Rattle.model.proofs.Built.{held}
-use Rattle.model.proofs.Grown.{other-block, last-level}
+use Rattle.model.proofs.Levels.{other-block, last-level}
 use Rattle.model.proofs.Shown.{words-pos}
 use Rattle.model.proofs.Supplied.{Supply}
 use Rattle.model.proofs.Steps.{committed}
