@@ -38,19 +38,21 @@ use Rattle.model.specs.declared.Answer.the-variants.{Done, Refused}
 use Rattle.model.specs.declared.Fault.the-variants.{WordCount, Trailer, Damaged, FileNumber, End, FreeBlocks, PlanLength, PairCount, Address}
 use Rattle.model.specs.declared.WalkEnd.{WalkEnd}
 use Rattle.model.specs.declared.WalkEnd.the-variants.{Block, Hole}
+use Rattle.model.specs.Lists.{tabulate, occ}
 use Rattle.model.specs.Layout.{house}
 use Rattle.model.specs.Tree.{least}
 use Rattle.model.specs.Board.{walkTo, contents}
 use Rattle.model.specs.Store.{store, laid}
 use Rattle.model.specs.Plan.{pairs}
 use Rattle.model.specs.Hidden.{hidden}
+use Rattle.model.specs.GivenUp.{lengthGives, writeGives}
 use Rattle.model.specs.Calls.{checkAnswer, freeCountAnswer, sizeAnswer, readAnswer, readBuffer, Planned, lowest, write, setLength, format, performAnswer, performBoard}
 use Rattle.model.specs.Cabinet.{imageCheck, imageSize, imageRead, imageReadBuffer}
 use Rattle.model.specs.Lister.{listing}
 use Rattle.model.specs.Examples.{sameList, sameAnswer}
 use Rattle.model.proofs.Computing.{computes}
 use Rattle.bands.specs.Sheet.{row, sheet, lies, heightIn, sheetHeight}
-use Rattle.bands.specs.Planned.{growthBy, wayBy, writePlanBy}
+use Rattle.bands.specs.Planned.{wayBy, growthBy, grownInodeBy, somePlanBy, writePlanBy}
 
 samePlanned : Planned → Answer → List ℕ → Bool
 samePlanned p a slice = sameAnswer (p .answer) a && sameList (p .slice) slice
@@ -68,7 +70,7 @@ sameEnd (Block m) Hole = false
 sameEnd (Block m) (Block n) = eqb m n
 
 '''
-OPEN = 'unfolding computes sameAnswer sameList samePlanned sameInt sameEnd row sheet lies heightIn sheetHeight growthBy wayBy writePlanBy'
+OPEN = 'unfolding computes sameAnswer sameList samePlanned sameInt sameEnd row sheet lies heightIn sheetHeight wayBy growthBy grownInodeBy somePlanBy writePlanBy'
 
 
 def numbers(xs):
@@ -127,6 +129,23 @@ class Vectors:
     def length(self, words, file, length):
         room = 2 * max(0, B.set_length(words, file, length, [0] * 2000)[0])
         self.planned('length', words, 'setLength', [file, length], room, B.set_length)
+
+    def given(self, words, call, pairs):
+        """How often the definition gives up each block: those of the model that were live or stored to as fresh, and are not live once all is stored."""
+        before, after = B.Survey(words), list(words)
+        stored = [pair for pair in pairs if pair[0] != B.BARRIER]
+        for at, value in stored:
+            after[at] = value
+        gone = set(before.blocks) | {at // 8 for at, _ in stored}
+        gone -= set(B.Survey(after).blocks)
+        self.add('given up', words, 'sameList (tabulate %d (λ q. occ q (%s))) %s' % (before.count, call, numbers([int(k in gone) for k in range(before.count)])))
+
+    def write_gives(self, words, file, offset, new):
+        self.given(words, 'writeGives house (lowest house BOARD) BOARD %d %d %s' % (file, offset, numbers(new)), B.plan_write(words, file, offset, new).pairs())
+
+    def length_gives(self, words, file, length):
+        pairs, plan = B.set_length(words, file, length, [0] * 2000)
+        self.given(words, 'lengthGives house BOARD %d %d' % (file, length), list(zip(plan[:2 * pairs:2], plan[1:2 * pairs:2])))
 
     def format(self, words, room):
         self.planned('format', words, 'format', [], room, B.format_board)
@@ -252,6 +271,7 @@ def every_way(vectors, rnd, offset_of, wanted, tries):
     for way in sorted(ways):
         _, words, file, offset, new = ways[way]
         vectors.write(words, file, offset, new)
+        vectors.write_gives(words, file, offset, new)
     for want in wanted:
         assert want in ways, 'no write went the way: ' + want
     return len(ways)
@@ -275,6 +295,15 @@ def past_the_end(vectors, rnd):
             return h >= low if h == height or start < size <= start + B.SPAN[h] else rnd.random() < 0.2
         file = rnd.randrange(32)
         vectors.write(made(rnd, 40, file, height, size, exists), file, offset, [rnd.randrange(256) for _ in range(rnd.randrange(1, 20))])
+
+
+def other_lengths(vectors, rnd):
+    """The blocks given up by a shorter length, down to each height's first bytes; by a longer one and by the same none."""
+    for height, size in [(0, 64), (1, 130), (2, 700), (3, 4200)]:
+        words = made(rnd, 40, 9, height, size, lambda h, start: start < size + 512 and rnd.random() < (0.3, 0.5, 1, 1)[h])
+        for length in sorted({0, 1, 64, 65, 513, 4097, size - 1, size, size + 70}):
+            if length <= size + 70:
+                vectors.length_gives(words, 9, length)
 
 
 def each_damage(vectors, rnd):
@@ -409,6 +438,7 @@ def main():
     ways = every_way(vectors, rnd, offset_within, WAYS, 4000) + every_way(vectors, rnd, offset_past, WAYS_PAST, 2000)
     null_on_path(vectors, rnd)
     past_the_end(vectors, rnd)
+    other_lengths(vectors, rnd)
     each_damage(vectors, rnd)
     bench(vectors)
     at_random(vectors, rnd, count)
