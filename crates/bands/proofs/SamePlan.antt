@@ -2,7 +2,7 @@
 use mathlib.Core.Path.{_≡_, refl, ap}
 use mathlib.Core.Bool.{cond}
 use mathlib.Core.List.{List, [], _∷_}
-use Prim.Native.Nat.{ℕ, zero, suc, _+_, _*_, _/_}
+use Prim.Native.Nat.{ℕ, zero, suc, _+_}
 use lib.ListN.{length}
 use Rattle.model.specs.declared.Inode.{Inode}
 use Rattle.model.specs.declared.WalkEnd.{WalkEnd}
@@ -10,7 +10,7 @@ use Rattle.model.specs.declared.WalkEnd.the-variants.{Block, Hole}
 use Rattle.model.specs.Lists.{concat}
 use Rattle.model.specs.Layout.{Layout, house}
 use Rattle.model.specs.Tree.{live, least}
-use Rattle.model.specs.Board.{inodeBlock, rootAddress, root, size}
+use Rattle.model.specs.Board.{root, size, inodeOf}
 use Rattle.model.specs.Store.{performed}
 use Rattle.model.specs.Plan.{Plan, plan, planEpochs, afterwards}
 use Rattle.model.specs.Change.{growing, grownRoot, growthTo, growth, grownInode, singleBlock, isTail, emptyTailTo, emptyTail, tail, chosenWay, grownPlan, somePlan, writePlan}
@@ -29,28 +29,24 @@ way-same g tall fresh b n o new c same = go (n .size) refl
     go zero e = rw e (ap (λ (h : ℕ). emptyTailTo g fresh b n h o new c) same)
     go (suc s) e = rw e
 
-module _ (g : Layout) (tall fresh : ℕ → ℕ) (b : List ℕ) (f : ℕ) where
-  growth-same : (e : ℕ) → tall e ≡ least (g .words) (g .height) e → growthBy g tall fresh b f e ≡ growth g fresh b f e
+module _ (g : Layout) (tall fresh : ℕ → ℕ) (n : Inode) (e : ℕ) (same : tall e ≡ least (g .words) (g .height) e) where
+  growth-same : growthBy g tall fresh n e ≡ growth g fresh n e
   unfolding growthBy growth
-  growth-same e same = ap (λ (h : ℕ). cond (growing g b f e) (growthTo g fresh b f h) (plan [] 0)) same
+  growth-same = ap (λ (h : ℕ). cond (growing g n e) (growthTo g fresh n h) (plan [] 0)) same
 
-  inode-same : (e : ℕ) → tall e ≡ least (g .words) (g .height) e → grownInodeBy g tall fresh b f e ≡ grownInode g fresh b f e
+  inode-same : grownInodeBy g tall fresh n e ≡ grownInode g fresh n e
   unfolding grownInodeBy grownInode
-  inode-same e same = λ t. record {
-    pointer = g .words * inodeBlock g b + f / g .inodes;
-    at = rootAddress g b f;
-    root = cond (growing g b f e) (grownRoot g fresh b f (same t)) (root g b f);
-    size = size g b f;
-  }
+  inode-same = λ t. record { pointer = n .pointer; at = n .at; root = cond (growing g n e) (grownRoot g fresh n (same t)) (n .root); size = n .size }
 
-  some-same : (end : WalkEnd) (o : ℕ) (new : List ℕ) → tall (o + length new) ≡ least (g .words) (g .height) (o + length new)
-      → somePlanBy g tall fresh b f end o new ≡ somePlan g fresh b f end o new
-  unfolding somePlanBy somePlan grownPlan
-  some-same (Block k) o new same = refl
-  some-same Hole o new same =
-      let p : Plan = growth g fresh b f (o + length new) in
-      rw (growth-same (o + length new) same, inode-same (o + length new) same)
-      (ap (afterwards p) (way-same g tall fresh (performed b (concat (planEpochs (p .steps)))) (grownInode g fresh b f (o + length new)) o new (p .taken) same))
+some-same : (g : Layout) (tall fresh : ℕ → ℕ) (b : List ℕ) (f : ℕ) (end : WalkEnd) (o : ℕ) (new : List ℕ) → tall (o + length new) ≡ least (g .words) (g .height) (o + length new)
+    → somePlanBy g tall fresh b f end o new ≡ somePlan g fresh b f end o new
+unfolding somePlanBy somePlan grownPlan
+some-same g tall fresh b f (Block k) o new same = refl
+some-same g tall fresh b f Hole o new same =
+    let n : Inode = inodeOf g b f in
+    let p : Plan = growth g fresh n (o + length new) in
+    rw (growth-same g tall fresh n (o + length new) same, inode-same g tall fresh n (o + length new) same)
+    (ap (afterwards p) (way-same g tall fresh (performed b (concat (planEpochs (p .steps)))) (grownInode g fresh n (o + length new)) o new (p .taken) same))
 
 pub same-height-rule : SameHeightRule
 unfolding writePlanBy writePlan

@@ -2,7 +2,7 @@
 -- of an empty file. No other way asks for a height.
 use mathlib.Core.Bool.{cond}
 use mathlib.Core.List.{List, [], _∷_}
-use Prim.Native.Nat.{ℕ, suc, _+_, _*_, _/_}
+use Prim.Native.Nat.{ℕ, suc, _+_}
 use lib.ListN.{length}
 use Rattle.model.specs.declared.Inode.{Inode}
 use Rattle.model.specs.declared.WalkEnd.{WalkEnd}
@@ -10,7 +10,7 @@ use Rattle.model.specs.declared.WalkEnd.the-variants.{Block, Hole}
 use Rattle.model.specs.Lists.{concat}
 use Rattle.model.specs.Layout.{Layout}
 use Rattle.model.specs.Tree.{live}
-use Rattle.model.specs.Board.{inodeBlock, rootAddress, root, size}
+use Rattle.model.specs.Board.{root, size, inodeOf}
 use Rattle.model.specs.Store.{performed}
 use Rattle.model.specs.Plan.{Plan, plan, planEpochs, afterwards}
 use Rattle.model.specs.Change.{growing, grownRoot, growthTo, singleBlock, singleWord, emptyTailTo, chosenWay}
@@ -20,26 +20,22 @@ module _ (g : Layout) (tall : ℕ → ℕ) (fresh : ℕ → ℕ) (b : List ℕ) 
   unfoldable pub wayBy : Inode → ℕ → List ℕ → ℕ → Plan
   wayBy n o new c = cond (live (n .size)) (chosenWay g fresh b n o new c) (emptyTailTo g fresh b n (tall (o + length new)) o new c)
 
-module _ (g : Layout) (tall : ℕ → ℕ) (fresh : ℕ → ℕ) (b : List ℕ) (f : ℕ) where
+module _ (g : Layout) (tall : ℕ → ℕ) (fresh : ℕ → ℕ) (n : Inode) where
   -- *If s > 0 and e exceeds the span, the least sufficient height is reached first*
   unfoldable pub growthBy : ℕ → Plan
-  growthBy e = cond (growing g b f e) (growthTo g fresh b f (tall e)) (plan [] 0)
+  growthBy e = cond (growing g n e) (growthTo g fresh n (tall e)) (plan [] 0)
 
   -- *What follows sees the grown tree*
   unfoldable pub grownInodeBy : ℕ → Inode
-  grownInodeBy e = record {
-    pointer = g .words * inodeBlock g b + f / g .inodes;
-    at = rootAddress g b f;
-    root = cond (growing g b f e) (grownRoot g fresh b f (tall e)) (root g b f);
-    size = size g b f;
-  }
+  grownInodeBy e = record { pointer = n .pointer; at = n .at; root = cond (growing g n e) (grownRoot g fresh n (tall e)) (n .root); size = n .size }
 
+module _ (g : Layout) (tall : ℕ → ℕ) (fresh : ℕ → ℕ) (b : List ℕ) (f : ℕ) where
   unfoldable pub somePlanBy : WalkEnd → ℕ → List ℕ → Plan
   somePlanBy (Block k) o new = singleWord g b k o new
   somePlanBy Hole o new =
-      let p : Plan = growthBy (o + length new) in
+      let p : Plan = growthBy g tall fresh (inodeOf g b f) (o + length new) in
       let grown : List ℕ = performed b (concat (planEpochs (p .steps))) in
-      afterwards p (wayBy g tall fresh grown (grownInodeBy (o + length new)) o new (p .taken))
+      afterwards p (wayBy g tall fresh grown (grownInodeBy g tall fresh (inodeOf g b f) (o + length new)) o new (p .taken))
 
   unfoldable pub writePlanBy : ℕ → List ℕ → Plan
   writePlanBy o [] = plan [] 0

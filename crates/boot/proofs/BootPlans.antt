@@ -15,12 +15,12 @@ use Rattle.model.specs.Lists.{joined, sum, choose, concat}
 use Rattle.model.specs.Words.{byteOf, wordOf}
 use Rattle.model.specs.Layout.{Layout}
 use Rattle.model.specs.Tree.{live, seen, ending, span, least, cell}
-use Rattle.model.specs.Board.{rootAddress, sizeAddress, root, size, walkTo}
+use Rattle.model.specs.Board.{rootAddress, sizeAddress, root, size, walkTo, inodeOf}
 use Rattle.model.specs.Store.{Store, store, performed}
 use Rattle.model.specs.Plan.{Plan, plan, step, planEpochs, afterwards}
 use Rattle.model.specs.Fresh.{Page, splice, part, partLength, touched, freshNeed, freshBefore, dataPage, stored, freshPointer, pointerPage, build}
 use Rattle.model.specs.InPlace.{atBlock, tailBefore, walkLive, tailPages, tailWords, hooked, inPlace}
-use Rattle.model.specs.Change.{levels, levelTop, growthTo, growth, grownInode, splicedWord, singleBlock, singleWord, isTail, emptyTailTo, emptyTail, tail, Shadow, descend, shadowInside, replaced, copiedLeaf, leafPage, shadowWithLength, chosenWay, grownPlan, somePlan, writePlan, cleared, lengthPlan}
+use Rattle.model.specs.Change.{growth, grownInode, splicedWord, singleBlock, singleWord, isTail, emptyTailTo, emptyTail, tail, Shadow, descend, shadowInside, replaced, copiedLeaf, leafPage, shadowWithLength, chosenWay, grownPlan, somePlan, writePlan, cleared, lengthPlan}
 use Rattle.boot.proofs.Alike.{Alike, performed-alike, Off, off-cond, walk-to-off, cell-alike, link-alike, Found, inode-alike, address-alike, address-off, root-alike, size-alike, walk-to-alike}
 
 -- ---- Trees
@@ -152,29 +152,8 @@ module _ (g : Layout) {b b′ : List ℕ} (same : Alike (g .words) b b′) {f : 
       let hidden : List Store = cond (ltb n (sizes t)) [] (cleared-alike (sizes t) n t) in
       cond (eqb n (sizes t)) (plan [] 0) (plan (step hidden (size-address t) n ∷ []) 0)
 
-  module _ (fresh : ℕ → ℕ) where
-    growth-to-alike : (h : ℕ) → growthTo g fresh b f h ≡ growthTo g fresh b′ f h
-    unfolding growthTo
-    growth-to-alike h = λ t.
-        let d : ℕ = h - root-word t % g .words in
-        let ps : List Page = levels (g .words) fresh (root-word t / g .words) d in
-        plan (step (stored (g .words) fresh ps 0) (address t) (g .words * levelTop fresh (root-word t / g .words) d + h) ∷ []) (length ps)
-
-    growth-alike : (e : ℕ) → growth g fresh b f e ≡ growth g fresh b′ f e
-    unfolding growth
-    growth-alike e =
-        λ t. cond (live (sizes t) && ltb (span (g .words) (root-word t % g .words)) e) (growth-to-alike (least (g .words) (g .height) e) t) (plan [] 0)
-
-    grown-inode-alike : (e : ℕ) → grownInode g fresh b f e ≡ grownInode g fresh b′ f e
-    unfolding grownInode
-    grown-inode-alike e = λ t.
-        let h : ℕ = least (g .words) (g .height) e in
-        record {
-          pointer = g .words * inode-alike g same (found .trailer-there) t + f / g .inodes;
-          at = address t;
-          root = cond (live (sizes t) && ltb (span (g .words) (root-word t % g .words)) e) (g .words * levelTop fresh (root-word t / g .words) (h - root-word t % g .words) + h) (root-word t);
-          size = sizes t;
-        }
+  lent-inode-alike : inodeOf g b f ≡ inodeOf g b′ f
+  lent-inode-alike = λ t. record { pointer = g .words * inode-alike g same (found .trailer-there) t + f / g .inodes; at = address t; root = root-word t; size = sizes t }
 
 -- ways 4 to 6, of an inode that stands outside block 0
 module _ (g : Layout) {b b′ : List ℕ} (same : Alike (g .words) b b′) (pos : 0 < g .words) (n : Inode) (off : g .words ≤ n .at) where
@@ -240,20 +219,19 @@ abbrev storesOf : Plan → List Store
 storesOf p = concat (planEpochs (p .steps))
 
 module _ (g : Layout) (pos : 0 < g .words) {b b′ : List ℕ} (same : Alike (g .words) b b′) (fresh : ℕ → ℕ) (f : ℕ) (found : Found g b f) where
-  inode-off : (e : ℕ) → g .words ≤ grownInode g fresh b f e .at
+  inode-off : (e : ℕ) → g .words ≤ grownInode g fresh (inodeOf g b f) e .at
   unfolding grownInode
   inode-off e = address-off g same found
 
   -- first the grown boards, by one plan of growth; then that plan and the other board's
-  grown-plan-alike : (o : ℕ) (new : List ℕ) → grownPlan g fresh b f o new ≡ grownPlan g fresh b′ f o new
+  grown-plan-alike : (o : ℕ) (new : List ℕ) → grownPlan g fresh b (inodeOf g b f) o new ≡ grownPlan g fresh b′ (inodeOf g b′ f) o new
   unfolding grownPlan
   grown-plan-alike o new =
       let e : ℕ = o + length new in
-      let p : Plan = growth g fresh b f e in
+      let p : Plan = growth g fresh (inodeOf g b f) e in
       let same′ : Alike (g .words) (performed b (storesOf p)) (performed b′ (storesOf p)) = performed-alike (g .words) b b′ (storesOf p) same in
-      (λ t. afterwards p (way-alike g same′ pos (grownInode g fresh b f e) (inode-off e) fresh o new (p .taken) t))
-      ∙ (λ t. let q : Plan = growth-alike g same found fresh e t in
-      afterwards q (chosenWay g fresh (performed b′ (storesOf q)) (grown-inode-alike g same found fresh e t) o new (q .taken)))
+      (λ t. afterwards p (way-alike g same′ pos (grownInode g fresh (inodeOf g b f) e) (inode-off e) fresh o new (p .taken) t))
+      ∙ (λ t. grownPlan g fresh b′ (lent-inode-alike g same found t) o new)
 
   some-plan-alike : (end : WalkEnd) → Off end → (o : ℕ) (new : List ℕ) → somePlan g fresh b f end o new ≡ somePlan g fresh b′ f end o new
   unfolding somePlan Off

@@ -1,5 +1,5 @@
 -- Growth of a file's tree: the levels, and the plan.
-use mathlib.Core.Path.{_≡_, refl, ap, _∙_}
+use mathlib.Core.Path.{_≡_, refl}
 use mathlib.Core.Logic.{_≢_}
 use mathlib.Core.List.{List, [], _∷_}
 use Prim.Native.Nat.{ℕ, zero, suc, _+_, _-_, _*_, _/_, _%_, _^_, _≤_, _<_}
@@ -7,6 +7,7 @@ use native.Mathlib.Omega.{arith}
 use native.Mathlib.Nat.{zero-add}
 use native.Mathlib.Numerals.{sub-one}
 use lib.ListN.{length, getD}
+use Rattle.model.specs.declared.Inode.{Inode}
 use Rattle.model.specs.Lists.{tabulate}
 use Rattle.model.specs.Layout.{house}
 use Rattle.model.specs.Board.{trailer, inodeBlock, sizeAddress, root, size}
@@ -82,20 +83,15 @@ top-root fresh (suc k) d h f e = rw e
 
 -- ---- The plan
 
--- the root word at its address
-pub root-word : {b : List ℕ} {f a w : ℕ} → AddressOf b f a → w ≡ getD b a 0 → w ≡ root house b f
-unfolding root
-root-word {b} at e = e ∙ ap (λ (x : ℕ). getD b x 0) (at .is)
-
 -- the levels were laid, then the commit of the root word v
-pub growth-laid : {b free slice slice₁ slice₂ : List ℕ} {f a w t v p : ℕ} (h : ℕ) → AddressOf b f a → w ≡ getD b a 0
-    → Took free slice 0 0 (levels 8 (taking free) (w / 8) (h - w % 8)) slice₁ t → v ≡ 8 * levelTop (taking free) (w / 8) (h - w % 8) + h
-    → Laid slice₁ (8 * t) (closing (8 * t - 0) (store a v)) slice₂ p
-    → PlanLaid slice 0 (growthTo house (taking free) b f h) slice₂ (record { pairs = p; taken = t })
+pub growth-laid : {free slice slice₁ slice₂ : List ℕ} {t v p : ℕ} (n : Inode) (h : ℕ)
+    → Took free slice 0 0 (levels 8 (taking free) (n .root / 8) (h - n .root % 8)) slice₁ t → v ≡ 8 * levelTop (taking free) (n .root / 8) (h - n .root % 8) + h
+    → Laid slice₁ (8 * t) (closing (8 * t - 0) (store (n .at) v)) slice₂ p
+    → PlanLaid slice 0 (growthTo house (taking free) n h) slice₂ (record { pairs = p; taken = t })
 unfolding growthTo
-growth-laid {b} {free} {slice} {slice₁} {slice₂} {f} {a} {w} {t} {v} {p} h at ew l ev commit =
-    let all : length (levels 8 (taking free) (w / 8) (h - w % 8)) ≡ t = omega (arith, l .next) in
-    rw (← (root-word at ew), ← (at .is), ← ev, all) (one-step a v t (rw (zero-add (8 * t)) at (Taken.laid-pages l)) commit refl)
+growth-laid {free} {t = t} {v} n h l ev commit =
+    let all : length (levels 8 (taking free) (n .root / 8) (h - n .root % 8)) ≡ t = omega (arith, l .next) in
+    rw (← ev, all) (one-step (n .at) v t (rw (zero-add (8 * t)) at (Taken.laid-pages l)) commit refl)
 
 -- ---- The inode
 

@@ -11,7 +11,6 @@ use words::word;
 ghost use mathlib.Core.Path.{_≡_};
 ghost use Prim.Native.Nat.{_+_, _-_, _*_, _/_, _%_, _^_, _≤_, _<_};
 ghost use Rattle.model.specs.Layout.{house};
-ghost use Rattle.model.specs.Board.{root};
 ghost use Rattle.model.specs.Change.{levelBelow, levels, levelTop, growthTo, singleWord};
 ghost use Rattle.building.specs.Taking.{taking, Blocks, Took};
 ghost use Rattle.growing.specs.Planned.{PlanLaid, AddressOf, InodeOf};
@@ -81,14 +80,13 @@ pub fn grown_root(free: &[u64], root: u64, h: u64) -> u64
 }
 
 // Growth of a file's tree to height h.
-pub fn grow(board: &[u64], free: &[u64], plan: &mut [u64], file: u64, h: u64) -> Count
-    requires { ⌜ Blocks (now free) × (root house (now board) file % 8 ≤ h) × (h ≤ 3) ⌝ }
-    ensures { λ r. ⌜ PlanLaid (now (plan .entry)) 0 (growthTo house (taking (now (free .entry))) (now (board .entry)) file h) (now (plan .exit)) r ⌝ }
+pub fn grow(free: &[u64], plan: &mut [u64], inode: Inode, h: u64) -> Count
+    requires { ⌜ Blocks (now free) × (inode .root % 8 ≤ h) × (h ≤ 3) ⌝ }
+    ensures { λ r. ⌜ PlanLaid (now (plan .entry)) 0 (growthTo house (taking (now (free .entry))) inode h) (now (plan .exit)) r ⌝ }
 {
-    let at = root_address(board, file);
-    let root = word(board, at);
+    let root = inode.root;
     let taken = levels(free, plan, root / 8, h - root % 8);
-    let pairs = commit(plan, 0, 8 * taken, at, grown_root(free, root, h));
+    let pairs = commit(plan, 0, 8 * taken, inode.at, grown_root(free, root, h));
     Count {
         pairs: pairs,
         taken: taken,

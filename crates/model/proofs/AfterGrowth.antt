@@ -33,7 +33,7 @@ use Rattle.model.proofs.GrowthWay.{growthStep, growth-performed, growin
 
 -- c is the board that growth leaves of b, for a write to file f from o up to e
 pub record GrownBoard (g : Layout) (fresh : ℕ → ℕ) (b c : List ℕ) (f o e : ℕ) : Type 0 where
-  pub inode : grownInode g fresh b f e ≡ inodeOf g c f
+  pub inode : grownInode g fresh (inodeOf g b f) e ≡ inodeOf g c f
   pub single : singleBlock g c f o e ≡ singleBlock g b f o e
 
 -- a span is whole words, so if one byte of a word lies past it, all do
@@ -81,12 +81,12 @@ module _ (W : ℕ) (pos : 0 < W) (b : List ℕ) (fresh : ℕ → ℕ) (lim : ℕ
 -- ---- The board
 
 -- no growth
-same-board : (g : Layout) (fresh : ℕ → ℕ) (b : List ℕ) (f o e : ℕ) → growing g b f e ≡ false → GrownBoard g fresh b (performed b (concat (planEpochs (plan [] 0 .steps)))) f o e
+same-board : (g : Layout) (fresh : ℕ → ℕ) (b : List ℕ) (f o e : ℕ) → growing g (inodeOf g b f) e ≡ false → GrownBoard g fresh b (performed b (concat (planEpochs (plan [] 0 .steps)))) f o e
 unfolding plan planEpochs concat performed grownInode
 same-board g fresh b f o e still = record { inode = rw still; single = refl }
 
 module _ {g : Layout} {b : List ℕ} {f e : ℕ} (w : Growing g b f e) {fresh : ℕ → ℕ} {lim : ℕ} (supply : Supply g b fresh 0 lim)
-    (room : growthTo g fresh b f (least (g .words) (g .height) e) .taken ≤ lim) (o : ℕ) (some : o < e) where
+    (room : growthTo g fresh (inodeOf g b f) (least (g .words) (g .height) e) .taken ≤ lim) (o : ℕ) (some : o < e) where
   abbrev h : ℕ
   h = least (g .words) (g .height) e
 
@@ -107,7 +107,7 @@ module _ {g : Layout} {b : List ℕ} {f e : ℕ} (w : Growing g b f e) {fresh : 
       (top-past W pos c fresh lim (supply .between .nonzero) h (rootBlock g b f) (h - rootHeight g b f) (size g c f) o (omega arith) room (growth-held w supply room)
       (λ x u. word-past W x o e some word (least-least W pos (g .height) e x u)) (omega arith) (omega (arith, some, reaches)))
 
-  larger-board : GrownBoard g fresh b (performed b (concat (planEpochs (growthTo g fresh b f h .steps)))) f o e
+  larger-board : GrownBoard g fresh b (performed b (concat (planEpochs (growthTo g fresh (inodeOf g b f) h .steps)))) f o e
   unfolding grownInode
   larger-board = rw (growth-performed g fresh b f h) (record {
     inode = rw (growing-more w, growth-inode w supply room, growth-address w supply room, growth-root w supply room, growth-size w supply room);
@@ -118,7 +118,7 @@ module _ {g : Layout} {b : List ℕ} {f o : ℕ} {new : List ℕ} (w : Writing g
   abbrev e : ℕ
   e = o + length new
 
-  pub grown-board : growth g fresh b f e .taken ≤ lim → GrownBoard g fresh b (performed b (concat (planEpochs (growth g fresh b f e .steps)))) f o e
+  pub grown-board : growth g fresh (inodeOf g b f) e .taken ≤ lim → GrownBoard g fresh b (performed b (concat (planEpochs (growth g fresh (inodeOf g b f) e .steps)))) f o e
   unfolding growth
   grown-board room = elim (growing-cases w) [
     | inl still ↦ rw (still .0) (same-board g fresh b f o e (still .0))

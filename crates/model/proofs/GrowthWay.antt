@@ -12,7 +12,7 @@ use borrow.Author.Tests.{lt-ltb, le-ltb}
 use Rattle.model.specs.Lists.{concat, occ}
 use Rattle.model.specs.Layout.{Layout, files}
 use Rattle.model.specs.Tree.{live, span, least}
-use Rattle.model.specs.Board.{rootWalk, rootBlocks, greatest, blockCount, inodeBlock, rootAddress, sizeAddress, rootHeight, rootBlock, root, size, walkTo, contents, fileBlocks, liveBlocks}
+use Rattle.model.specs.Board.{rootWalk, rootBlocks, greatest, blockCount, inodeBlock, rootAddress, sizeAddress, rootHeight, rootBlock, root, size, walkTo, contents, fileBlocks, liveBlocks, inodeOf}
 use Rattle.model.specs.Store.{Store, store, performed}
 use Rattle.model.specs.Plan.{Step, step, plan, planEpochs}
 use Rattle.model.specs.Fresh.{Page, stored}
@@ -45,29 +45,29 @@ module _ (g : Layout) (fresh : ℕ → ℕ) (b : List ℕ) (f h : ℕ) where
 
   -- growth to height h is one step
   abbrev pub growthStep : Step
-  growthStep = step (stored (g .words) fresh growthPages 0) (rootAddress g b f) (grownRoot g fresh b f h)
+  growthStep = step (stored (g .words) fresh growthPages 0) (rootAddress g b f) (grownRoot g fresh (inodeOf g b f) h)
 
   -- and the board with its stores performed is the one with the step committed
-  pub growth-performed : performed b (concat (planEpochs (growthTo g fresh b f h .steps))) ≡ committed b growthStep
+  pub growth-performed : performed b (concat (planEpochs (growthTo g fresh (inodeOf g b f) h .steps))) ≡ committed b growthStep
   unfolding growthTo plan allCommitted
   growth-performed = performed-steps b (growthStep ∷ [])
 
 -- *If s > 0 and e exceeds the span*, and only then
-pub growing-more : {g : Layout} {b : List ℕ} {f e : ℕ} → Growing g b f e → growing g b f e ≡ true
+pub growing-more : {g : Layout} {b : List ℕ} {f e : ℕ} → Growing g b f e → growing g (inodeOf g b f) e ≡ true
 growing-more {g} {b} {f} {e} w = rw (live-some (size g b f) (w .live), lt-ltb (span (g .words) (rootHeight g b f)) e (w .more))
 
 module _ {g : Layout} {b : List ℕ} {f o : ℕ} {new : List ℕ} (w : Writing g b f o new) where
   abbrev e : ℕ
   e = o + length new
 
-  growing-empty : size g b f ≡ 0 → growing g b f e ≡ false
+  growing-empty : size g b f ≡ 0 → growing g (inodeOf g b f) e ≡ false
   unfolding live
   growing-empty z = rw z
 
-  growing-spanned : e ≤ span (g .words) (rootHeight g b f) → growing g b f e ≡ false
+  growing-spanned : e ≤ span (g .words) (rootHeight g b f) → growing g (inodeOf g b f) e ≡ false
   growing-spanned l = rw (le-ltb (span (g .words) (rootHeight g b f)) e l, and-false)
 
-  pub growing-cases : ((growing g b f e ≡ false) × Spanned g b f e) ⊎ Growing g b f e
+  pub growing-cases : ((growing g (inodeOf g b f) e ≡ false) × Spanned g b f e) ⊎ Growing g b f e
   growing-cases = elim (split (size g b f) 0) [
     | inl z ↦ inl (growing-empty (omega arith), λ l. absurd (omega arith))
     | inr l ↦ elim (split e (span (g .words) (rootHeight g b f))) [
@@ -76,7 +76,7 @@ module _ {g : Layout} {b : List ℕ} {f o : ℕ} {new : List ℕ} (w : Writing g
     ]
   ]
 
-pub growth-takes : {g : Layout} {b : List ℕ} {f : ℕ} → FileOn g b f → (fresh : ℕ → ℕ) (h : ℕ) → Takes g b fresh 0 (growthTo g fresh b f h .taken) (growthStep g fresh b f h)
+pub growth-takes : {g : Layout} {b : List ℕ} {f : ℕ} → FileOn g b f → (fresh : ℕ → ℕ) (h : ℕ) → Takes g b fresh 0 (growthTo g fresh (inodeOf g b f) h .taken) (growthStep g fresh b f h)
 unfolding growthTo plan step store All
 growth-takes {g} {b} {f} on fresh h = record {
   pages = growthPages g fresh b f h;
@@ -120,7 +120,7 @@ module _ {g : Layout} {b : List ℕ} {f e : ℕ} (w : Growing g b f e) {fresh : 
   abbrev top : ℕ
   top = levelTop fresh (rootBlock g b f) (h - rootHeight g b f)
 
-  module _ (room : growthTo g fresh b f h .taken ≤ lim) where
+  module _ (room : growthTo g fresh (inodeOf g b f) h .taken ≤ lim) where
     fits : 0 + length ps ≤ lim
     unfolding growthTo plan
     fits = omega (arith, room)
@@ -140,7 +140,7 @@ module _ {g : Layout} {b : List ℕ} {f e : ℕ} (w : Growing g b f e) {fresh : 
     on₁ = on-same on shown-same
 
     value : ℕ
-    value = grownRoot g fresh b f h
+    value = grownRoot g fresh (inodeOf g b f) h
 
     -- the board with the commit
     done : List ℕ
@@ -229,7 +229,7 @@ module _ {g : Layout} {b : List ℕ} {f e : ℕ} (w : Growing g b f e) {fresh : 
     pub growth-address : rootAddress g (committed b (growthStep g fresh b f h)) f ≡ rootAddress g b f
     growth-address = sym (growth-addresses f file)
 
-    pub growth-root : root g (committed b (growthStep g fresh b f h)) f ≡ grownRoot g fresh b f h
+    pub growth-root : root g (committed b (growthStep g fresh b f h)) f ≡ grownRoot g fresh (inodeOf g b f) h
     unfolding step store committed done c₁ value
     growth-root = root-done
 
@@ -261,12 +261,12 @@ module _ {g : Layout} {b : List ℕ} {f e : ℕ} (w : Growing g b f e) {fresh : 
     unfolding done
     counts-done q = omega (arith, spot-counts on shown-same (rootAddress g b f) value commit-spot file-grown met-once q)
 
-    pub growth-counts : (q : ℕ) → occ q (liveBlocks g (committed b (growthStep g fresh b f h))) ≡ occ q (liveBlocks g b) + used fresh q 0 (growthTo g fresh b f h .taken)
+    pub growth-counts : (q : ℕ) → occ q (liveBlocks g (committed b (growthStep g fresh b f h))) ≡ occ q (liveBlocks g b) + used fresh q 0 (growthTo g fresh (inodeOf g b f) h .taken)
     unfolding step store committed done c₁ value growthTo plan
     growth-counts = counts-done
 
     -- so the fresh blocks that are left are still not live
-    pub growth-supply : Supply g (committed b (growthStep g fresh b f h)) fresh (growthTo g fresh b f h .taken) lim
+    pub growth-supply : Supply g (committed b (growthStep g fresh b f h)) fresh (growthTo g fresh (inodeOf g b f) h .taken) lim
     unfolding step store committed done c₁ value growthTo plan
     growth-supply = record {
       between = rw (count-kept g b done len) at (supply .between);

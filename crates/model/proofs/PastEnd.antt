@@ -184,13 +184,13 @@ module _ {g : Layout} {b : List ℕ} {f o : ℕ} {new : List ℕ} (w : Writing g
   abbrev Wanted : Plan → Plan → Type 0
   Wanted p q = q .taken ≤ lim → PastEnd g b (allCommitted b (q .steps)) f o (length new) (drop (p .taken) (take (q .taken) (free g b)))
 
-  no-growth : growing g b f e ≡ false → Spanned g b f e → Wanted (growth g fresh b f e) (grownPlan g fresh b f o new)
+  no-growth : growing g (inodeOf g b f) e ≡ false → Spanned g b f e → Wanted (growth g fresh (inodeOf g b f) e) (grownPlan g fresh b (inodeOf g b f) o new)
   unfolding growth plan
   no-growth still reach = rw (still, still-plan w some lent still) (λ room. way-past w some reach lent past _ room (among 0 _ room))
 
   module _ (grow : Growing g b f e) where
     abbrev p : Plan
-    p = growthTo g fresh b f (least (g .words) (g .height) e)
+    p = growthTo g fresh (inodeOf g b f) (least (g .words) (g .height) e)
 
     abbrev c : List ℕ
     c = committed b (growthStep g fresh b f (least (g .words) (g .height) e))
@@ -211,21 +211,21 @@ module _ {g : Layout} {b : List ℕ} {f o : ℕ} {new : List ℕ} (w : Writing g
           past-from g b c _ f o (length new) _ sizes walks-kept
           (way-past (grown-writing w some lent grow enough) some (λ z. growth-reaches grow lent enough) (growth-supply grow lent enough) (rw sizes past) _ room (among (p .taken) _ room))
 
-    grows : Wanted (growth g fresh b f e) (grownPlan g fresh b f o new)
+    grows : Wanted (growth g fresh (inodeOf g b f) e) (grownPlan g fresh b (inodeOf g b f) o new)
     grows room =
-        let is : growth g fresh b f e ≡ p = growth-is w some lent grow in
+        let is : growth g fresh (inodeOf g b f) e ≡ p = growth-is w some lent grow in
         let enough : p .taken ≤ lim = omega (arith, room, growth-first g fresh b f o new, ap (λ (x : Plan). x .taken) is) in
         let plan-is = grown-plan w some lent grow enough in
         rw (is, plan-is) (after-growth enough (rw plan-is at room))
 
-  past-some : Wanted (growth g fresh b f e) (somePlan g fresh b f (singleBlock g b f o e) o new)
+  past-some : Wanted (growth g fresh (inodeOf g b f) e) (somePlan g fresh b f (singleBlock g b f o e) o new)
   unfolding somePlan
   past-some = rw (none-single g fresh b f o new 0 past some) (elim (growing-cases w) [ inl still ↦ no-growth (still .0) (still .1) | inr grow ↦ grows grow ])
 
 -- the plan, whatever is written
 plan-past : {g : Layout} {b : List ℕ} {f o : ℕ} {new : List ℕ} → Writing g b f o new → size g b f < o → let p : Plan = writePlan g (lowest g b) b f o new in
     0 < length (pairs p) → p .taken ≤ length (free g b)
-    → PastEnd g b (allCommitted b (p .steps)) f o (length new) (drop (growth g (lowest g b) b f (o + length new) .taken) (take (p .taken) (free g b)))
+    → PastEnd g b (allCommitted b (p .steps)) f o (length new) (drop (growth g (lowest g b) (inodeOf g b f) (o + length new) .taken) (take (p .taken) (free g b)))
 unfolding writePlan plan pairs fenced planEpochs
 plan-past {new = []} w past more room = absurd (omega arith)
 plan-past {new = x ∷ new} w past more room = past-some w (omega arith) past room

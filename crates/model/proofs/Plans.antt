@@ -174,9 +174,9 @@ module _ {g : Layout} {b : List ℕ} {f : ℕ} (on : FileOn g b f) (n : ℕ) (mo
 -- ---- Write
 
 -- the plan takes at least what growth takes
-pub growth-first : (g : Layout) (fresh : ℕ → ℕ) (b : List ℕ) (f o : ℕ) (new : List ℕ) → growth g fresh b f (o + length new) .taken ≤ grownPlan g fresh b f o new .taken
+pub growth-first : (g : Layout) (fresh : ℕ → ℕ) (b : List ℕ) (f o : ℕ) (new : List ℕ) → growth g fresh (inodeOf g b f) (o + length new) .taken ≤ grownPlan g fresh b (inodeOf g b f) o new .taken
 unfolding grownPlan afterwards plan
-growth-first g fresh b f o new = taken-from g fresh _ (grownInode g fresh b f (o + length new)) o new (growth g fresh b f (o + length new) .taken)
+growth-first g fresh b f o new = taken-from g fresh _ (grownInode g fresh (inodeOf g b f) (o + length new)) o new (growth g fresh (inodeOf g b f) (o + length new) .taken)
 
 module _ {g : Layout} {b : List ℕ} {f o : ℕ} {new : List ℕ} (w : Writing g b f o new) (some : 0 < length new) {fresh : ℕ → ℕ} {lim : ℕ} (supply : Supply g b fresh 0 lim) where
   open FileOn (w .on) using (fit)
@@ -208,15 +208,15 @@ module _ {g : Layout} {b : List ℕ} {f o : ℕ} {new : List ℕ} (w : Writing g
   single-plan K is room = one-plan fit (single-way w some (single-reach K is) supply refl K is room)
 
   -- no growth
-  pub still-plan : growing g b f e ≡ false → grownPlan g fresh b f o new ≡ way b 0
+  pub still-plan : growing g (inodeOf g b f) e ≡ false → grownPlan g fresh b (inodeOf g b f) o new ≡ way b 0
   unfolding grownPlan growth grownInode plan afterwards planEpochs concat performed
   still-plan still = rw still
 
-  still-gives : growing g b f e ≡ false → someGives g fresh b f Hole o new ≡ gives b
+  still-gives : growing g (inodeOf g b f) e ≡ false → someGives g fresh b f Hole o new ≡ gives b
   unfolding someGives growth grownInode plan planEpochs concat performed
   still-gives still = rw still
 
-  no-growth : growing g b f e ≡ false → Spanned g b f e → Wanted (grownPlan g fresh b f o new) (someGives g fresh b f Hole o new)
+  no-growth : growing g (inodeOf g b f) e ≡ false → Spanned g b f e → Wanted (grownPlan g fresh b (inodeOf g b f) o new) (someGives g fresh b f Hole o new)
   no-growth still reach = rw (still-plan still, still-gives still) (λ room. one-plan fit (way-good w some reach supply room))
 
   -- growth
@@ -225,7 +225,7 @@ module _ {g : Layout} {b : List ℕ} {f o : ℕ} {new : List ℕ} (w : Writing g
     h = least (g .words) (g .height) e
 
     abbrev p : Plan
-    p = growthTo g fresh b f h
+    p = growthTo g fresh (inodeOf g b f) h
 
     abbrev g-step : Step
     g-step = growthStep g fresh b f h
@@ -234,15 +234,15 @@ module _ {g : Layout} {b : List ℕ} {f o : ℕ} {new : List ℕ} (w : Writing g
     abbrev c : List ℕ
     c = committed b g-step
 
-    pub growth-is : growth g fresh b f e ≡ p
+    pub growth-is : growth g fresh (inodeOf g b f) e ≡ p
     unfolding growth
     growth-is = rw (growing-more grow)
 
     module _ (enough : p .taken ≤ lim) where
-      inode-is : grownInode g fresh b f e ≡ inodeOf g c f
+      inode-is : grownInode g fresh (inodeOf g b f) e ≡ inodeOf g c f
       inode-is = rw (growth-is, growth-performed g fresh b f h) at (grown-board w some supply (rw growth-is enough) .inode)
 
-      pub grown-plan : grownPlan g fresh b f o new ≡ afterwards p (way c (p .taken))
+      pub grown-plan : grownPlan g fresh b (inodeOf g b f) o new ≡ afterwards p (way c (p .taken))
       unfolding grownPlan
       grown-plan = rw (growth-is, growth-performed g fresh b f h, inode-is)
 
@@ -262,7 +262,7 @@ module _ {g : Layout} {b : List ℕ} {f o : ℕ} {new : List ℕ} (w : Writing g
           (rw (← (first .outcome .reads)) (way-good grown-writing some (λ l. growth-reaches grow supply enough) (growth-supply grow supply enough) room))
           (taken-from g fresh c (inodeOf g c f) o new (p .taken))
 
-    grows : Wanted (grownPlan g fresh b f o new) (someGives g fresh b f Hole o new)
+    grows : Wanted (grownPlan g fresh b (inodeOf g b f) o new) (someGives g fresh b f Hole o new)
     grows room =
         let enough : p .taken ≤ lim = omega (arith, room, growth-first g fresh b f o new, ap (λ (x : Plan). x .taken) growth-is) in
         rw (grown-plan enough, grown-gives enough) (after-growth enough (rw (grown-plan enough) at room))

@@ -25,6 +25,7 @@ use Rattle.model.specs.Answers.{Faults, unlessRefused}
 use Rattle.model.specs.Calls.{boardFaults, fileFaults, Planned, planned, lowest, writeFaults, writeFrom, setLength}
 use Rattle.model.specs.Cut.{Change, writing, lengthTo, fileOf, calledFrom, called, planFrom, planFor, givenUp, planOf, altered, after, Cut, Names, standing, lastArrived}
 use Rattle.model.specs.Claims.{Shaped, CutSafe, Altered, PlanRule, FreshRule, PowerCutRule, AccuracyRule}
+use Rattle.model.specs.Safe.{left, SafePlan}
 use Rattle.model.specs.Orders.{Order, Promised, OrderRule}
 use Rattle.model.proofs.Cases.{is-true}
 use Rattle.model.proofs.Counting.{occ-distinct, member-occ}
@@ -39,8 +40,8 @@ use Rattle.model.proofs.Accepting.{in-range, facts, address-on-board}
 use Rattle.model.proofs.Census.{member-free}
 use Rattle.model.proofs.Supplied.{supply-order, lowest-rule, lowest-first}
 use Rattle.model.proofs.HiddenStores.{hidden-in-range}
-use Rattle.model.proofs.Safety.{none-safe, Stays, Settled, settled-one}
-use Rattle.model.proofs.Steps.{committed, length-committed, allCommitted, Reads, SafeSteps, one-step, steps-stores, front, front-last, front-all, performed-steps, steps-rule, steps-whole}
+use Rattle.model.proofs.Safety.{none-safe, Stays, OneTurn, Settled, settled-one, turn-safe}
+use Rattle.model.proofs.Steps.{committed, length-committed, allCommitted, Reads, SafeSteps, one-step, steps-stores, front, front-last, front-all, performed-steps, left-steps, safe-steps, steps-rule, steps-whole}
 use Rattle.model.proofs.GoodSteps.{StepTo, InBlocks, theFile, onlyFile, only-file, only-others, step-safe, GoodSteps}
 use Rattle.model.proofs.StepBlocks.{blocksOf}
 use Rattle.model.proofs.Writing.{Writing}
@@ -159,6 +160,13 @@ module _ (g : Layout) (fit : Fits g) (touched : ℕ → Bool) (b : List ℕ) (t 
   pub plan-reads : let b′ : List ℕ = performed b (stores (fenced (planEpochs ps))) in (T (accepted g b′) × Stays g touched b b′) × Reads g b′ wanted
   plan-reads = rw (plan-stores, performed-steps b ps) (steps-whole g touched b t ps (good-safe-steps g touched wanted Last b ps good), good-reads g touched wanted Last b ps good)
 
+  -- its last epoch is the one that changes what is read
+  pub plan-turn : let ss : List Store = fenced (planEpochs ps) in OneTurn g touched b (epochs ss) (length (epochs ss) - 1)
+  plan-turn = rw plan-epochs (safe-steps g fit touched b t ps (good-safe-steps g touched wanted Last b ps good))
+
+  pub plan-left : let ss : List Store = fenced (planEpochs ps) in Reads g (left b (epochs ss) (length (epochs ss))) wanted
+  plan-left = rw (plan-epochs, left-steps b ps) (good-reads g touched wanted Last b ps good)
+
   -- cut anywhere, it obeys the power-cut rule
   pub plan-cut : (x : Cut) → let ss : List Store = fenced (planEpochs ps) in Names ss x → Settled g touched b (standing ss x b) wanted ss (lastArrived ss x)
   plan-cut = steps-rule g fit touched b t ps (good-safe-steps g touched wanted Last b ps good) wanted (good-reads g touched wanted Last b ps good) (fenced (planEpochs ps)) plan-epochs
@@ -182,6 +190,12 @@ module _ (g : Layout) (fit : Fits g) (b : List ℕ) (t : T (accepted g b)) (f : 
   unfolding pairs
   one-cut x u = rw (only-file f wanted (contents g b)) at (settled-one g (theFile f) b (standing (pairs p) x b) now (pairs p) (lastArrived (pairs p) x)
       (plan-cut g fit (theFile f) b t (p .steps) now (InBlocks g b) all-in good x u) f f-lt (λ e v n. only-others f wanted (contents g b) e n))
+
+  -- it is a safe plan
+  pub one-safe : SafePlan g b f (epochs (pairs p)) (length (epochs (pairs p)) - 1)
+  unfolding pairs
+  one-safe = turn-safe g fit (theFile f) b t (epochs (pairs p)) (length (epochs (pairs p)) - 1) (plan-turn g fit (theFile f) b t (p .steps) now (InBlocks g b) all-in good) f f-lt
+      (λ e u n. plan-left g fit (theFile f) b t (p .steps) now (InBlocks g b) all-in good e u ∙ only-others f wanted (contents g b) e n)
 
   pub one-stays : (x : Cut) → Names (pairs p) x → (e : ℕ) → e < files g → e ≢ f → (i : ℕ) → walkTo g (standing (pairs p) x b) e i ≡ walkTo g b e i
   unfolding pairs
@@ -288,6 +302,7 @@ module _ (g : Layout) (fit : Fits g) (b : List ℕ) (t : T (accepted g b)) (fres
       done-promised = record {
         shaped = rw (d .plans) (one-shaped g fit b t (fileOf c) (d .file-in) (altered c before) p (d .good .steps-good));
         takes = rw (d .plans) (λ some k m. takes-are k m);
+        safe = rw (d .plans) (one-safe g fit b t (fileOf c) (d .file-in) (altered c before) p (d .good .steps-good));
         cuts = rw (after-done c before (d .answers), d .plans) (one-cut g fit b t (fileOf c) (d .file-in) (altered c before) p (d .good .steps-good));
         stays = rw (d .plans) (one-stays g fit b t (fileOf c) (d .file-in) (altered c before) p (d .good .steps-good));
         alters = rw (after-done c before (d .answers), d .plans) (one-altered g fit b t (fileOf c) (d .file-in) (altered c before) p (d .good .steps-good));
@@ -300,6 +315,7 @@ module _ (g : Layout) (fit : Fits g) (b : List ℕ) (t : T (accepted g b)) (fres
     refused-promised slice r = record {
       shaped = rw (r .plans) (shaped-none, tt);
       takes = rw (r .plans) (λ some. absurd (omega arith));
+      safe = rw (r .plans) (record { hides = λ i l. absurd (omega arith); accepts = λ i l. absurd (omega arith); keeps = λ i l. absurd (omega arith); others = λ i l. absurd (omega arith) });
       cuts = rw (after-refused c before (r .answers), r .plans) (λ x l. none-safe [] refl b g t (fileOf c) x (lastArrived [] x));
       stays = rw (r .plans) (λ x l e u n i. ap (λ (c : List ℕ). walkTo g c e i) (standing-none [] refl x b));
       alters = rw (after-refused c before (r .answers), r .plans) record { board = t; file = refl; others = λ e l n. refl };

@@ -198,6 +198,18 @@ module _ (g : Layout) (fit : Fits g) where
       left-alike : (i : ℕ) → i ≡ d → i < length es → length (getD es i []) ≢ 1 → contents g b f ≡ contents g (left b es (length es)) f
       left-alike i e l n = sym (left-before i (omega arith) (omega arith)) ∙ sym (epoch-shows i l (left-accepted i (omega arith)) n .reads f f-lt) ∙ left-after (suc i) l (omega arith)
 
+    -- where all files but f read in the end as on b, it is a safe plan of file f
+    pub turn-safe : (f : ℕ) → f < files g → ((e : ℕ) → e < files g → e ≢ f → contents g (left b es (length es)) e ≡ contents g b e) → SafePlan g b f es d
+    turn-safe f f-lt same = record {
+      hides = safe .hides;
+      accepts = safe .accepts;
+      keeps = λ i l one n. safe .keeps i l one n f f-lt;
+      others = λ i l one e u m. elim (decide i d) [
+        | inl z ↦ left-after e u (suc i) l (omega arith) ∙ same e u m ∙ sym (left-before e u i (omega arith) (omega arith))
+        | inr n ↦ safe .keeps i l one n e u
+      ];
+    }
+
     left-walks : (i : ℕ) → i ≤ length es → Stays g touched b (left b es i)
     left-walks i l e u z n = unchanged (λ k. walkTo g (left b es k) e n) 0 i (omega arith) (λ k v w. step k (omega arith)) ∙ ap (λ (c : List ℕ). walkTo g c e n) (left-zero b es)
       where

@@ -46,7 +46,16 @@ lowest-rule g b = record {
   apart = λ i j u v e. omega (arith, free-rises g b i j u v);
 }
 
--- and those taken are the first of the free blocks
+-- and so is highest number first
+pub highest-order : (g : Layout) (b : List ℕ) → Order g b (λ i. getD (free g b) (length (free g b) - 1 - i) 0)
+highest-order g b =
+    let last : ℕ = length (free g b) - 1 in
+    record {
+      among = λ i l. rw (free-member g b (getD (free g b) (last - i) 0) (free-at g b (last - i) (omega arith))) tt;
+      apart = λ i j u v e. omega (arith, free-rises g b (last - j) (last - i) (omega arith) (omega arith));
+    }
+
+-- of lowest number first those taken are the first of the free blocks
 pub lowest-first : (g : Layout) (b : List ℕ) (k n : ℕ) → 0 < k → occ k (tabulate n (lowest g b)) ≡ occ k (take n (free g b))
 unfolding lowest
 lowest-first g b k n pos = occ-first (free g b) k n pos

@@ -10,7 +10,7 @@ use lib.Dec.{T}
 use Rattle.model.specs.declared.Inode.{Inode}
 use Rattle.model.specs.Layout.{Layout, Fits}
 use Rattle.model.specs.Tree.{span, least, cell}
-use Rattle.model.specs.Board.{free, accepted, liveBlocks, blockCount, rootHeight, rootBlock, root, size}
+use Rattle.model.specs.Board.{free, accepted, liveBlocks, blockCount, rootHeight, rootBlock, root, size, inodeOf}
 use Rattle.model.specs.Store.{Store, performed, stores}
 use Rattle.model.specs.Plan.{plan}
 use Rattle.model.specs.Fresh.{freshNeed, need}
@@ -51,7 +51,7 @@ descend-need W pos fresh b (suc h) (suc k) n o new c a within = elim (split (o %
 ]
 
 module _ (g : Layout) (pos : 0 < g .words) (fresh : ℕ → ℕ) (b : List ℕ) (f : ℕ) where
-  pub growth-takes-levels : (h : ℕ) → 0 < rootBlock g b f → growthTo g fresh b f h .taken ≡ h - rootHeight g b f
+  pub growth-takes-levels : (h : ℕ) → 0 < rootBlock g b f → growthTo g fresh (inodeOf g b f) h .taken ≡ h - rootHeight g b f
   unfolding growthTo plan
   growth-takes-levels h there = length-levels (g .words) fresh (rootBlock g b f) (h - rootHeight g b f) there
 

@@ -12,7 +12,7 @@ use Rattle.model.specs.Lists.{tabulate, concat}
 use Rattle.model.specs.Words.{byteOf, wordOf}
 use Rattle.model.specs.Layout.{Layout}
 use Rattle.model.specs.Tree.{live, span, least, cell}
-use Rattle.model.specs.Board.{inodeBlock, rootAddress, rootHeight, rootBlock, root, size, sizeAddress, walkTo}
+use Rattle.model.specs.Board.{rootAddress, rootHeight, rootBlock, size, sizeAddress, inodeOf, walkTo}
 use Rattle.model.specs.Store.{Store, store, performed}
 use Rattle.model.specs.Plan.{Plan, plan, step, planEpochs, afterwards}
 use Rattle.model.specs.Fresh.{Page, splice, stored, freshPointer, build}
@@ -40,32 +40,34 @@ unfoldable pub levelTop : (ℕ → ℕ) → ℕ → ℕ → ℕ
 levelTop fresh zero d = 0
 levelTop fresh (suc k) d = levelBelow fresh (suc k) d
 
--- *If s > 0 and e exceeds the span*
-abbrev pub growing : (g : Layout) (b : List ℕ) (f e : ℕ) → Bool
-growing g b f e = live (size g b f) && ltb (span (g .words) (rootHeight g b f)) e
+-- Ways 2 and 4 to 6 take the file's inode as numbers, n.
 
-module _ (g : Layout) (fresh : ℕ → ℕ) (b : List ℕ) (f : ℕ) where
+-- *If s > 0 and e exceeds the span*
+abbrev pub growing : (g : Layout) (n : Inode) (e : ℕ) → Bool
+growing g n e = live (n .size) && ltb (span (g .words) (n .root % g .words)) e
+
+module _ (g : Layout) (fresh : ℕ → ℕ) (n : Inode) where
   -- the root word of the tree grown to height h
   abbrev pub grownRoot : ℕ → ℕ
-  grownRoot h = g .words * levelTop fresh (rootBlock g b f) (h - rootHeight g b f) + h
+  grownRoot h = g .words * levelTop fresh (n .root / g .words) (h - n .root % g .words) + h
 
   -- growth to height h: the levels; *barrier; then the root word*. *A null root gets the root word alone*
   unfoldable pub growthTo : ℕ → Plan
   growthTo h =
-      let ps : List Page = levels (g .words) fresh (rootBlock g b f) (h - rootHeight g b f) in
-      plan (step (stored (g .words) fresh ps 0) (rootAddress g b f) (grownRoot h) ∷ []) (length ps)
+      let ps : List Page = levels (g .words) fresh (n .root / g .words) (h - n .root % g .words) in
+      plan (step (stored (g .words) fresh ps 0) (n .at) (grownRoot h) ∷ []) (length ps)
 
   -- *the least sufficient height is reached first*
   unfoldable pub growth : ℕ → Plan
-  growth e = cond (growing g b f e) (growthTo (least (g .words) (g .height) e)) (plan [] 0)
+  growth e = cond (growing g n e) (growthTo (least (g .words) (g .height) e)) (plan [] 0)
 
-  -- *What follows sees the grown tree*: its root and, of the lent board, the rest of the inode
+  -- *What follows sees the grown tree*: its root, and the rest of the inode as it was
   unfoldable pub grownInode : ℕ → Inode
   grownInode e = record {
-    pointer = g .words * inodeBlock g b + f / g .inodes;
-    at = rootAddress g b f;
-    root = cond (growing g b f e) (grownRoot (least (g .words) (g .height) e)) (root g b f);
-    size = size g b f;
+    pointer = n .pointer;
+    at = n .at;
+    root = cond (growing g n e) (grownRoot (least (g .words) (g .height) e)) (n .root);
+    size = n .size;
   }
 
 -- ---- 3. Single word
@@ -83,8 +85,6 @@ unfoldable pub singleWord : (g : Layout) (b : List ℕ) (k o : ℕ) → List ℕ
 singleWord g b k o new =
     let a : ℕ = g .words * k + o % span (g .words) 0 / 8 in
     plan (step [] a (splicedWord (o % 8) new (getD b a 0)) ∷ []) 0
-
--- Ways 4 to 6 take the file's inode as numbers, n, and read its blocks on b.
 
 -- ---- 4. Tail
 
@@ -176,18 +176,18 @@ module _ (g : Layout) (fresh : ℕ → ℕ) (b : List ℕ) (n : Inode) where
       cond (isTail g b n o) (tail g fresh b n (n .size) o new c)
       (cond (leb (o + length new) (n .size)) (shadowInside o new c) (shadowWithLength o new c))
 
-module _ (g : Layout) (fresh : ℕ → ℕ) (b : List ℕ) (f : ℕ) where
-  -- growth, and the way that follows: blocks are read on the board with growth's stores performed
-  unfoldable pub grownPlan : ℕ → List ℕ → Plan
-  grownPlan o new =
-      let p : Plan = growth g fresh b f (o + length new) in
-      let grown : List ℕ = performed b (concat (planEpochs (p .steps))) in
-      afterwards p (chosenWay g fresh grown (grownInode g fresh b f (o + length new)) o new (p .taken))
+-- growth, and the way that follows: blocks are read on the board with growth's stores performed
+unfoldable pub grownPlan : (g : Layout) (fresh : ℕ → ℕ) (b : List ℕ) (n : Inode) → ℕ → List ℕ → Plan
+grownPlan g fresh b n o new =
+    let p : Plan = growth g fresh n (o + length new) in
+    let grown : List ℕ = performed b (concat (planEpochs (p .steps))) in
+    afterwards p (chosenWay g fresh grown (grownInode g fresh n (o + length new)) o new (p .taken))
 
+module _ (g : Layout) (fresh : ℕ → ℕ) (b : List ℕ) (f : ℕ) where
   -- a single word, or ways 2 and 4 to 6
   unfoldable pub somePlan : WalkEnd → ℕ → List ℕ → Plan
   somePlan (Block k) o new = singleWord g b k o new
-  somePlan Hole o new = grownPlan o new
+  somePlan Hole o new = grownPlan g fresh b (inodeOf g b f) o new
 
   -- *1. L = 0: an empty plan.*
   unfoldable pub writePlan : ℕ → List ℕ → Plan

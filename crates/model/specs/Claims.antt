@@ -12,7 +12,7 @@ use Rattle.model.specs.Lists.{sum, all, filter, member, distinct}
 use Rattle.model.specs.Words.{byteOf, Bytes}
 use Rattle.model.specs.Layout.{Layout, Fits, house, files}
 use Rattle.model.specs.Tree.{span, cell, link}
-use Rattle.model.specs.Board.{blockCount, trailer, rootHeight, rootBlock, size, walkTo, contents, liveBlocks, free, inRange, accepted, wordCountSound}
+use Rattle.model.specs.Board.{blockCount, trailer, rootHeight, rootBlock, size, walkTo, contents, liveBlocks, free, inRange, accepted, wordCountSound, inodeOf}
 use Rattle.model.specs.Store.{Store, store, isBarrier, performed, stores, epochs}
 use Rattle.model.specs.Hidden.{hidden}
 use Rattle.model.specs.Fresh.{partLength, dataPage, pointerPage}
@@ -35,7 +35,7 @@ CheckRule = (g : Layout) (b : List ℕ) → (checkAnswer g b ≡ Done 0) ↔ T (
 unfoldable pub barrierAt : List Store → ℕ → Bool
 barrierAt ss i = isBarrier (getD ss i (store 0 0))
 
--- *none stands first or last*, nor two in a row; *value 0*; *within an epoch no address occurs twice*
+-- *none stands first or last*, nor two in a row; the value is 0; *within an epoch no address occurs twice*
 pub record Shaped (ss : List Store) : Type 0 where
   pub first : barrierAt ss 0 ≡ false
   pub last : barrierAt ss (length ss - 1) ≡ false
@@ -186,7 +186,7 @@ pub record PastEnd (g : Layout) (b b′ : List ℕ) (f o l : ℕ) (fresh : List 
 abbrev pub PastEndRule : Type 0
 PastEndRule = (g : Layout) → Fits g → (b : List ℕ) → T (accepted g b) → (f o : ℕ) (new : Bytes) (slice : List ℕ)
     → let ss : List Store = planOf (called g b (writing f o new) slice) in
-    let grown : ℕ = growth g (lowest g b) b f (o + length (new .values)) .taken in
+    let grown : ℕ = growth g (lowest g b) (inodeOf g b f) (o + length (new .values)) .taken in
     0 < length ss → size g b f < o → PastEnd g b (performed b (stores ss)) f o (length (new .values)) (drop grown (take (planFor g b (writing f o new) .taken) (free g b)))
 
 -- ---- Format

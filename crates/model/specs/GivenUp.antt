@@ -1,4 +1,4 @@
--- The blocks that a change gives up: those that are live before it and not after. Document 02, N5.
+-- The blocks that a change gives up: those that are live before it, or that its growth took, and are not live after it. Document 02, N5.
 use mathlib.Core.Bool.{cond}
 use mathlib.Core.List.{List, [], _∷_, _++_}
 use Prim.Native.Nat.{ℕ, zero, suc, _+_, _-_, _*_, _/_, _%_}
@@ -10,7 +10,7 @@ use Rattle.model.specs.declared.WalkEnd.the-variants.{Block, Hole}
 use Rattle.model.specs.Lists.{joined, concat}
 use Rattle.model.specs.Layout.{Layout}
 use Rattle.model.specs.Tree.{span, cell, link, blocks}
-use Rattle.model.specs.Board.{rootHeight, rootBlock, size}
+use Rattle.model.specs.Board.{rootHeight, rootBlock, size, inodeOf}
 use Rattle.model.specs.Store.{performed}
 use Rattle.model.specs.Plan.{Plan, planEpochs}
 use Rattle.model.specs.Fresh.{partLength, touched}
@@ -46,7 +46,7 @@ module _ (W : ℕ) (b : List ℕ) where
   droppedBlocks (suc h) (suc k) n zero = blocks W b (suc h) (suc k) n
   droppedBlocks (suc h) (suc k) n (suc m) = joined W (λ j. droppedBlocks h (cell W b (suc k) j / W) (n - j * span W h) (suc m - j * span W h))
 
--- ways 4 to 6, of a file with inode n: a tail none; shadow inside the file; shadow with length, *and the leaf*
+-- ways 4 to 6, of a file with inode n: a tail none; shadow inside the file; shadow with length, and the leaf
 unfoldable pub wayGives : (g : Layout) (b : List ℕ) (n : Inode) → ℕ → List ℕ → List ℕ
 wayGives g b n o new =
     cond (isTail g b n o) []
@@ -62,8 +62,8 @@ module _ (g : Layout) (fresh : ℕ → ℕ) (b : List ℕ) (f : ℕ) where
   unfoldable pub someGives : WalkEnd → ℕ → List ℕ → List ℕ
   someGives (Block k) o new = []
   someGives Hole o new =
-      let p : Plan = growth g fresh b f (o + length new) in
-      wayGives g (performed b (concat (planEpochs (p .steps)))) (grownInode g fresh b f (o + length new)) o new
+      let p : Plan = growth g fresh (inodeOf g b f) (o + length new) in
+      wayGives g (performed b (concat (planEpochs (p .steps)))) (grownInode g fresh (inodeOf g b f) (o + length new)) o new
 
   unfoldable pub writeGives : ℕ → List ℕ → List ℕ
   writeGives o [] = []

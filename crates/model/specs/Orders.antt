@@ -1,17 +1,19 @@
--- What Claims promises of the calls that change a file, for any order of taking blocks, document 01's among them; and which blocks are live afterwards.
+-- PlanRule, FreshRule, PowerCutRule and AccuracyRule of Claims for any order of taking blocks, document 01's among them; that the plans are safe; and which
+-- blocks are live afterwards.
 use mathlib.Core.Path.{_≡_}
 use mathlib.Core.Logic.{_≢_, _↔_}
 use mathlib.Core.List.{List, map}
-use Prim.Native.Nat.{ℕ, _+_, _/_, _<_}
+use Prim.Native.Nat.{ℕ, _+_, _-_, _/_, _<_}
 use lib.ListN.{length}
 use lib.Dec.{T}
 use Rattle.model.specs.declared.Answer.the-variants.{Done}
 use Rattle.model.specs.Lists.{tabulate, all, member, occ}
 use Rattle.model.specs.Layout.{Layout, Fits, files}
 use Rattle.model.specs.Board.{walkTo, contents, liveBlocks, free, inRange, accepted}
-use Rattle.model.specs.Store.{Store, performed, stores}
+use Rattle.model.specs.Store.{Store, performed, stores, epochs}
 use Rattle.model.specs.Calls.{Planned, lowest}
 use Rattle.model.specs.Cut.{Change, fileOf, calledFrom, planFrom, givenUp, planOf, after, Cut, Names, standing, lastArrived}
+use Rattle.model.specs.Safe.{SafePlan}
 use Rattle.model.specs.Claims.{Shaped, CutSafe, Altered}
 
 -- fresh 0, fresh 1, .., as many as there are free blocks, are free blocks, and no two are the same
@@ -42,6 +44,8 @@ module _ (g : Layout) (fresh : ℕ → ℕ) (b : List ℕ) (c : Change) (slice :
   pub record Promised : Type 0 where
     pub shaped : Shaped ss × T (all (λ s. inRange g b (s .at / g .words)) (stores ss))
     pub takes : 0 < length ss → (k : ℕ) → T (member k (free g b)) → T (member k (map (λ s. s .at / g .words) (stores ss))) ↔ T (member k taken)
+    -- it is a safe plan, in which the last epoch decides
+    pub safe : SafePlan g b (fileOf c) (epochs ss) (length (epochs ss) - 1)
     pub cuts : (x : Cut) → Names ss x → CutSafe g b (standing ss x b) (fileOf c) wanted ss (lastArrived ss x)
     -- and that a walk to a byte of another file ends where it ended
     pub stays : (x : Cut) → Names ss x → (e : ℕ) → e < files g → e ≢ fileOf c → (i : ℕ) → walkTo g (standing ss x b) e i ≡ walkTo g b e i

@@ -1,4 +1,4 @@
--- Safe plans: what the power-cut rule is proved from.
+-- Safe plans: what may be asked of any plan that changes one file, so that it obeys the power-cut rule. Those of the calls are so.
 use mathlib.Core.Path.{_≡_}
 use mathlib.Core.Logic.{_≢_}
 use mathlib.Core.Bool.{Bool, _&&_, _||_}

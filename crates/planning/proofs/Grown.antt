@@ -11,7 +11,7 @@ use Rattle.model.specs.declared.Inode.{Inode}
 use Rattle.model.specs.Lists.{concat}
 use Rattle.model.specs.Layout.{Layout, house}
 use Rattle.model.specs.Tree.{span, least}
-use Rattle.model.specs.Board.{rootAddress, rootHeight, rootBlock, root, size}
+use Rattle.model.specs.Board.{root, size}
 use Rattle.model.specs.Store.{Store, store, barrier, performed, fenced, flat, paired, laid}
 use Rattle.model.specs.Plan.{Step, Plan, plan, step, stepEpochs, planEpochs, pairs, afterwards}
 use Rattle.model.specs.Fresh.{Page, stored}
@@ -24,7 +24,7 @@ use Rattle.plans.specs.Laying.{onto, closing, Laid}
 use Rattle.plans.proofs.Laying as Laying
 use Rattle.building.specs.Taking.{taking, Blocks}
 use Rattle.growing.specs.declared.Count.{Count}
-use Rattle.growing.specs.Planned.{PlanLaid, InodeOf}
+use Rattle.growing.specs.Planned.{PlanLaid}
 use Rattle.growing.proofs.Growth.{levels-most}
 use Rattle.growing.proofs.OneStep.{step-plan}
 use Rattle.ways.specs.Planning.{Ready}
@@ -130,67 +130,55 @@ pub record GrowthCount (r : Count) : Type 0 where
   pub stores : 8 * r .taken < r .pairs
   pub most : r .pairs ≤ 26
 
-growth-count : {slice slice′ : List ℕ} {r : Count} (fresh : ℕ → ℕ) (b : List ℕ) (f h : ℕ) → h ≤ 3 → PlanLaid slice 0 (growthTo house fresh b f h) slice′ r → GrowthCount r
+growth-count : {slice slice′ : List ℕ} {r : Count} (fresh : ℕ → ℕ) (n : Inode) (h : ℕ) → h ≤ 3 → PlanLaid slice 0 (growthTo house fresh n h) slice′ r → GrowthCount r
 unfolding growthTo plan
-growth-count {r = r} fresh b f h low w =
-    let d : ℕ = h - rootHeight house b f in
-    let ps : List Page = levels 8 fresh (rootBlock house b f) d in
-    let few : length ps ≤ d = levels-most fresh (rootBlock house b f) d in
+growth-count {r = r} fresh n h low w =
+    let d : ℕ = h - n .root % 8 in
+    let ps : List Page = levels 8 fresh (n .root / 8) d in
+    let few : length ps ≤ d = levels-most fresh (n .root / 8) d in
     let taken : r .taken ≡ length ps = w .taken in
     let blocks = length-stored 8 fresh ps 0 in
-    let all = one-step-length (stored 8 fresh ps 0) (rootAddress house b f) (8 * levelTop fresh (rootBlock house b f) d + h) (length ps) in
+    let all = one-step-length (stored 8 fresh ps 0) (n .at) (8 * levelTop fresh (n .root / 8) d + h) (length ps) in
     record { stores = omega (arith, w .count, all .0); most = omega (arith, w .count, all .1) }
 
-growth-some : (fresh : ℕ → ℕ) (b : List ℕ) (f h : ℕ) → 0 < length (growthTo house fresh b f h .steps)
+growth-some : (fresh : ℕ → ℕ) (n : Inode) (h : ℕ) → 0 < length (growthTo house fresh n h .steps)
 unfolding growthTo plan
-growth-some fresh b f h = omega arith
+growth-some fresh n h = omega arith
 
 -- ---- What follows it
 
-module _ {b : List ℕ} {f o : ℕ} {new table : List ℕ} (g : Growable b f o new table) where
+module _ {b : List ℕ} {n : Inode} {o : ℕ} {new table : List ℕ} (g : Growable b n o new table) where
   abbrev e : ℕ
   e = o + length new
 
   -- where there is none
-  module _ (t : growing house b f e ≡ false) {n : Inode} (i : InodeOf b f n) where
+  module _ (t : growing house n e ≡ false) where
     pub still-ready : Ready n o new table 0 0
-    still-ready = record {
-      blocks = g .blocks;
-      some = g .some;
-      end = g .end;
-      address = i .small;
-      height = rw (i .is) (g .low);
-      spans = rw (i .is) (spanned b f e t);
-      place = omega arith;
-    }
+    still-ready = record { blocks = g .blocks; some = g .some; end = g .end; address = g .address; height = g .low; spans = spanned n e t; place = omega arith }
 
     pub still-laid : {slice slice′ : List ℕ} {r : Count} → PlanLaid slice 0 (chosenWay house (taking table) (onto b []) n o new 0) slice′ r
-        → PlanLaid slice 0 (grownPlan house (taking table) b f o new) slice′ r
+        → PlanLaid slice 0 (grownPlan house (taking table) b n o new) slice′ r
     unfolding onto paired performed plan planEpochs concat growth grownInode grownPlan afterwards
-    still-laid w = rw t (rw (i .is) at w)
+    still-laid w = rw t w
 
   -- where there is
-  module _ (t : growing house b f e ≡ true) {h : ℕ} (high : h ≡ least 8 3 e) where
-    grows : growth house (taking table) b f e ≡ growthTo house (taking table) b f h
+  module _ (t : growing house n e ≡ true) {h : ℕ} (high : h ≡ least 8 3 e) where
+    grows : growth house (taking table) n e ≡ growthTo house (taking table) n h
     unfolding growth
     grows = rw (t, high)
 
-    -- what `grow` asks
-    pub may-grow : Blocks table × (root house b f % 8 ≤ h) × (h ≤ 3)
-    may-grow = let reached = grown-height b f e t high (g .end) in (g .blocks, reached .0, reached .1)
-
-    -- and for the root word
-    pub may-root : {n : Inode} → InodeOf b f n → Blocks table × (n .root % 8 ≤ h) × (h ≤ 3)
-    may-root i = rw (i .is) may-grow
+    -- what growth asks
+    pub may-grow : Blocks table × (n .root % 8 ≤ h) × (h ≤ 3)
+    may-grow = let reached = grown-height n e t high (g .end) in (g .blocks, reached .0, reached .1)
 
     -- the inode with the grown root v
-    module _ {n : Inode} (i : InodeOf b f n) {v : ℕ} (ev : v ≡ 8 * levelTop (taking table) (n .root / 8) (h - n .root % 8) + h) where
+    module _ {v : ℕ} (ev : v ≡ 8 * levelTop (taking table) (n .root / 8) (h - n .root % 8) + h) where
       abbrev grownNode : Inode
       grownNode = record { pointer = n .pointer; at = n .at; root = v; size = n .size }
 
-      node-is : grownNode ≡ grownInode house (taking table) b f e
+      node-is : grownNode ≡ grownInode house (taking table) n e
       unfolding grownInode
-      node-is = rw (ev, i .is, high, t)
+      node-is = rw (ev, high, t)
 
       height-is : v % 8 ≡ h
       height-is = omega (arith, may-grow .2)
@@ -201,26 +189,26 @@ module _ {b : List ℕ} {f o : ℕ} {new table : List ℕ} (g : Growable b f o n
         blocks = g .blocks;
         some = g .some;
         end = g .end;
-        address = i .small;
+        address = g .address;
         height = λ l. rw height-is (may-grow .2);
         spans = λ l. rw (height-is, high) (least-reaches 8 (lit< tt) 3 e (g .end));
         place = room;
       }
 
-      module _ {stores stores′ : List ℕ} {count : Count} (w : PlanLaid stores 0 (growthTo house (taking table) b f h) stores′ count) where
+      module _ {stores stores′ : List ℕ} {count : Count} (w : PlanLaid stores 0 (growthTo house (taking table) n h) stores′ count) where
         -- planned in a slice that has room for it, growth is what the slice holds
         module _ (room : 52 ≤ length stores) where
-          stored-left : onto b (take (2 * count .pairs) stores′) ≡ performed b (concat (planEpochs (growth house (taking table) b f e .steps)))
-          stored-left = onto-planned b (g .words) (omega (arith, growth-count (taking table) b f h (may-grow .2) w .most)) w ∙ rw grows
+          stored-left : onto b (take (2 * count .pairs) stores′) ≡ performed b (concat (planEpochs (growth house (taking table) n e .steps)))
+          stored-left = onto-planned b (g .words) (omega (arith, growth-count (taking table) n h (may-grow .2) w .most)) w ∙ rw grows
 
-          pub grown-laid : {slice slice₁ slice₂ slice₃ : List ℕ} {r₁ r : Count} → PlanLaid slice 0 (growthTo house (taking table) b f h) slice₁ r₁
+          pub grown-laid : {slice slice₁ slice₂ slice₃ : List ℕ} {r₁ r : Count} → PlanLaid slice 0 (growthTo house (taking table) n h) slice₁ r₁
               → slice₂ ≡ laid slice₁ (count .pairs) (barrier ∷ [])
               → PlanLaid slice₂ (count .pairs + 1 - 8 * count .taken + 8 * count .taken)
               (chosenWay house (taking table) (onto b (take (2 * count .pairs) stores′)) grownNode o new (count .taken)) slice₃ r
-              → PlanLaid slice 0 (grownPlan house (taking table) b f o new) slice₃ r
+              → PlanLaid slice 0 (grownPlan house (taking table) b n o new) slice₃ r
           unfolding grownPlan
-          grown-laid first fence second = rw grows (both-laid (growth-some (taking table) b f h) (way-some house (taking table) _ (grownInode house (taking table) b f e) o new _)
-              first (w .count) fence (omega (arith, growth-count (taking table) b f h (may-grow .2) w .stores)) (rw (stored-left, node-is, grows, w .taken) at second))
+          grown-laid first fence second = rw grows (both-laid (growth-some (taking table) n h) (way-some house (taking table) _ (grownInode house (taking table) n e) o new _)
+              first (w .count) fence (omega (arith, growth-count (taking table) n h (may-grow .2) w .stores)) (rw (stored-left, node-is, grows, w .taken) at second))
 
-    pub counted : {stores stores′ : List ℕ} {count : Count} → PlanLaid stores 0 (growthTo house (taking table) b f h) stores′ count → GrowthCount count
-    counted w = growth-count (taking table) b f h (may-grow .2) w
+    pub counted : {stores stores′ : List ℕ} {count : Count} → PlanLaid stores 0 (growthTo house (taking table) n h) stores′ count → GrowthCount count
+    counted w = growth-count (taking table) n h (may-grow .2) w

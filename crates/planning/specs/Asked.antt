@@ -4,9 +4,10 @@ use mathlib.Core.List.{List, _++_}
 use Prim.Native.Nat.{ℕ, _+_, _-_, _%_, _^_, _≤_, _<_}
 use lib.ListN.{length, drop}
 use lib.Dec.{T}
+use Rattle.model.specs.declared.Inode.{Inode}
 use Rattle.model.specs.Lists.{pickFrom}
 use Rattle.model.specs.Layout.{house}
-use Rattle.model.specs.Board.{root, size, free, accepted}
+use Rattle.model.specs.Board.{free, accepted}
 use Rattle.model.specs.Calls.{lowest}
 use Rattle.surveying.specs.Survey.{spare}
 use Rattle.building.specs.Taking.{taking, Blocks}
@@ -21,14 +22,15 @@ pub record File (b : List ℕ) (f : ℕ) : Type 0 where
   pub board : T (accepted house b)
   pub file : f < 32
 
--- A write of at least one byte that ends within bounds, on any board: a live root has one of the heights; and the table of free blocks
-pub record Growable (b : List ℕ) (f o : ℕ) (new table : List ℕ) : Type 0 where
-  pub file : f < 32
+-- A write of at least one byte that ends within bounds, on any board, to the file with inode n: a live root has one of the heights, and the size stands
+-- in the word after it; and the table of free blocks
+pub record Growable (b : List ℕ) (n : Inode) (o : ℕ) (new table : List ℕ) : Type 0 where
   pub some : 0 < length new
   pub end : o + length new ≤ 32768
   pub blocks : Blocks table
   pub words : length b < 2 ^ 64
-  pub low : 0 < size house b f → root house b f % 8 ≤ 3
+  pub address : n .at + 1 < 2 ^ 64
+  pub low : 0 < n .size → n .root % 8 ≤ 3
 
 -- one that no refusal up to 6 turns away
 pub record Asked (b : List ℕ) (f o : ℕ) (new table : List ℕ) : Type 0 where

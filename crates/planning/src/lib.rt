@@ -46,14 +46,13 @@ pub fn list_free(marks: &[u64], top: u64, table: &mut [u64]) -> u64
 }
 
 // Whether a write that ends at e makes a file's tree grow first.
-pub fn grows(board: &[u64], file: u64, e: u64) -> bool
-    ensures { λ r. ⌜ r ≡ growing house (now (board .entry)) file e ⌝ }
+fn grows(inode: Inode, e: u64) -> bool
+    ensures { λ r. ⌜ r ≡ growing house inode e ⌝ }
 {
-    let at = root_address(board, file);
-    if word(board, at + 1) == 0 {
+    if inode.size == 0 {
         return false;
     }
-    span(word(board, at) % 8) < e
+    span(inode.root % 8) < e
 }
 
 // Plans growth, where it is due, and what follows on the grown board.
@@ -61,22 +60,21 @@ pub fn plan_grown(
     board: &[u64],
     free: &[u64],
     plan: &mut [u64],
-    file: u64,
+    inode: Inode,
     o: u64,
     new: &[u8],
 ) -> Count
-    requires { ⌜ Growable (now board) file o (now new) (now free) ⌝ }
-    ensures { λ r. ⌜ PlanLaid (now (plan .entry)) 0 (grownPlan house (taking (now (free .entry))) (now (board .entry)) file o (now (new .entry))) (now (plan .exit)) r ⌝ }
+    requires { ⌜ Growable (now board) inode o (now new) (now free) ⌝ }
+    ensures { λ r. ⌜ PlanLaid (now (plan .entry)) 0 (grownPlan house (taking (now (free .entry))) (now (board .entry)) inode o (now (new .entry))) (now (plan .exit)) r ⌝ }
 {
     let e = o + new.len() as u64;
-    let inode = lent_inode(board, file);
     let mut stores = [0u64; 52];
-    if !grows(board, file, e) {
+    if !grows(inode, e) {
         return way(board, &stores[..0], free, plan, 0, inode, o, new, 0);
     }
     let h = least_height(e);
-    let count = grow(board, free, &mut stores, file, h);
-    grow(board, free, plan, file, h);
+    let count = grow(free, &mut stores, inode, h);
+    grow(free, plan, inode, h);
     barrier(plan, count.pairs);
     let end = 2 * count.pairs as usize;
     let base = count.pairs + 1 - 8 * count.taken;
@@ -100,7 +98,7 @@ pub fn plan_grown(
     )
 }
 
-// Plans a write. A single word is never one that growth comes before, so the lent board decides it.
+// Plans a write. A single word is never one that growth comes before, so the lent board decides it. The inode is read here and nowhere below.
 pub fn plan_write(
     board: &[u64],
     free: &[u64],
@@ -112,17 +110,16 @@ pub fn plan_write(
     requires { ⌜ Asked (now board) file o (now new) (now free) ⌝ }
     ensures { λ r. ⌜ PlanLaid (now (plan .entry)) 0 (writePlan house (taking (now (free .entry))) (now (board .entry)) file o (now (new .entry))) (now (plan .exit)) r ⌝ }
 {
-    let at = root_address(board, file);
-    let s = word(board, at + 1);
+    let inode = lent_inode(board, file);
     let e = o + new.len() as u64;
-    if s < e {
-        return plan_grown(board, free, plan, file, o, new);
+    if inode.size < e {
+        return plan_grown(board, free, plan, inode, o, new);
     }
     if o / 8 != (e - 1) / 8 {
-        return plan_grown(board, free, plan, file, o, new);
+        return plan_grown(board, free, plan, inode, o, new);
     }
-    let WalkEnd::Block(k) = root_walk(board, word(board, at), s, o) else {
-        return plan_grown(board, free, plan, file, o, new);
+    let WalkEnd::Block(k) = root_walk(board, inode.root, inode.size, o) else {
+        return plan_grown(board, free, plan, inode, o, new);
     };
     single(board, plan, k, o, new)
 }
