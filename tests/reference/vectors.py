@@ -131,7 +131,7 @@ class Vectors:
         self.planned('length', words, 'setLength', [file, length], room, B.set_length)
 
     def given(self, words, call, pairs):
-        """How often the definition gives up each block: those of the model that were live or stored to as fresh, and are not live once all is stored."""
+        """How often the definition gives up each block: once where in the model it was live before or is stored to, and is not live when all is stored."""
         before, after = B.Survey(words), list(words)
         stored = [pair for pair in pairs if pair[0] != B.BARRIER]
         for at, value in stored:

@@ -10,7 +10,7 @@ use Rattle.model.specs.declared.WalkEnd.the-variants.{Block, Hole}
 use Rattle.model.specs.Lists.{concat}
 use Rattle.model.specs.Layout.{Layout}
 use Rattle.model.specs.Tree.{live}
-use Rattle.model.specs.Board.{root, size, inodeOf}
+use Rattle.model.specs.Board.{inodeOf}
 use Rattle.model.specs.Store.{performed}
 use Rattle.model.specs.Plan.{Plan, plan, planEpochs, afterwards}
 use Rattle.model.specs.Change.{growing, grownRoot, growthTo, singleBlock, singleWord, emptyTailTo, chosenWay}

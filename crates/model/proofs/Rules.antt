@@ -83,7 +83,7 @@ pub record Allowed (g : Layout) (b : List ℕ) (Last : ℕ → Type 0) : Type 0 
 pub allowed-blocks : (g : Layout) → Fits g → (b : List ℕ) → T (accepted g b) → Allowed g b (InBlocks g b)
 allowed-blocks g fit b t = record { blocks = λ a r. r; on-board = λ a r. address-on-board g fit b (facts g fit b t .sizes) a (omega (arith, r .1)) }
 
-module _ (g : Layout) (fit : Fits g) (b : List ℕ) (Last : ℕ → Type 0) (allowed : Allowed g b Last) where
+module _ (Last : ℕ → Type 0) where
   one-store : (s : Store) → Inside Last s → GoodEpoch Last (s ∷ [])
   unfolding All distinct member
   one-store s r = record { full = omega arith; once = tt; within = (r, tt) }
@@ -93,34 +93,35 @@ module _ (g : Layout) (fit : Fits g) (b : List ℕ) (Last : ℕ → Type 0) (all
   step-epochs [] s once rs r = (one-store s r, tt)
   step-epochs (h ∷ ss) s once rs r = (record { full = omega arith; once = occ-distinct (addresses (h ∷ ss)) once; within = rs }, (one-store s r, tt))
 
-  -- c is a board along the way, as long as b, so what is in range on it is in range on b
-  in-blocks : (c : List ℕ) → length c ≡ length b → (a : ℕ) → InBlocks g c a → InBlocks g b a
-  in-blocks c e a r = rw (count-kept g c b e) at r
+-- c is a board along the way, as long as b, so what is in range on it is in range on b
+in-blocks : (g : Layout) (b c : List ℕ) → length c ≡ length b → (a : ℕ) → InBlocks g c a → InBlocks g b a
+in-blocks g b c e a r = rw (count-kept g c b e) at r
 
-  hidden-blocks : (c : List ℕ) → length c ≡ length b → T (accepted g c) → (ss : List Store) → All (λ s. T (hidden g c s)) ss → All (λ s. InBlocks g b (s .at)) ss
-  hidden-blocks c e t ss h = all-map (λ x. T (hidden g c x)) (λ x. InBlocks g b (x .at)) (λ x y. in-blocks c e (x .at) (hidden-in-range g fit c t x y)) ss h
+hidden-blocks : (g : Layout) → Fits g → (b c : List ℕ) → length c ≡ length b → T (accepted g c) → (ss : List Store) → All (λ s. T (hidden g c s)) ss → All (λ s. InBlocks g b (s .at)) ss
+hidden-blocks g fit b c e t ss h = all-map (λ x. T (hidden g c x)) (λ x. InBlocks g b (x .at)) (λ x y. in-blocks g b c e (x .at) (hidden-in-range g fit c t x y)) ss h
 
+module _ (g : Layout) (fit : Fits g) (b : List ℕ) (Last : ℕ → Type 0) (allowed : Allowed g b Last) where
   module _ (touched : ℕ → Bool) (wanted : ℕ → List ℕ) where
     good-step-epochs : (c : List ℕ) → length c ≡ length b → T (accepted g c) → (p : Step) (w : ℕ → List ℕ) (At : ℕ → Type 0) → ((a : ℕ) → At a → Last a) → StepTo g touched c p w At
         → All (GoodEpoch Last) (stepEpochs (p .hidden) (p .commit))
-    good-step-epochs c e t p w At at s = step-epochs (p .hidden) (p .commit) (s .once)
-        (all-map (λ x. InBlocks g b (x .at)) (Inside Last) (λ x r. allowed .blocks (x .at) r) (p .hidden) (hidden-blocks c e t (p .hidden) (s .hides))) (at (p .commit .at) (s .within))
+    good-step-epochs c e t p w At at s = step-epochs Last (p .hidden) (p .commit) (s .once)
+        (all-map (λ x. InBlocks g b (x .at)) (Inside Last) (λ x r. allowed .blocks (x .at) r) (p .hidden) (hidden-blocks g fit b c e t (p .hidden) (s .hides))) (at (p .commit .at) (s .within))
 
     good-epochs : (c : List ℕ) → length c ≡ length b → T (accepted g c) → (ps : List Step) → GoodSteps g touched c ps wanted Last → All (GoodEpoch Last) (planEpochs ps)
     unfolding GoodSteps planEpochs All
     good-epochs c e t [] s = tt
     good-epochs c e t (p ∷ []) s = all-append (GoodEpoch Last) (stepEpochs (p .hidden) (p .commit)) [] (good-step-epochs c e t p wanted Last (λ a r. r) s) tt
     good-epochs c e t (p ∷ q ∷ ps) s = all-append (GoodEpoch Last) (stepEpochs (p .hidden) (p .commit)) (planEpochs (q ∷ ps))
-        (good-step-epochs c e t p (contents g c) (InBlocks g c) (λ a r. allowed .blocks a (in-blocks c e a r)) (s .0))
+        (good-step-epochs c e t p (contents g c) (InBlocks g c) (λ a r. allowed .blocks a (in-blocks g b c e a r)) (s .0))
         (good-epochs (committed c p) (length-committed c p ∙ e) (s .0 .board) (q ∷ ps) (s .1))
 
     -- all stores but the last go to blocks 1 to B − 2
     good-front : (c : List ℕ) → length c ≡ length b → T (accepted g c) → (ps : List Step) → GoodSteps g touched c ps wanted Last → All (λ s. InBlocks g b (s .at)) (front (concat (planEpochs ps)))
     unfolding GoodSteps planEpochs concat All front
     good-front c e t [] s = tt
-    good-front c e t (p ∷ []) s = rw (steps-stores p [], front-last (p .hidden) (p .commit)) (hidden-blocks c e t (p .hidden) (s .hides))
+    good-front c e t (p ∷ []) s = rw (steps-stores p [], front-last (p .hidden) (p .commit)) (hidden-blocks g fit b c e t (p .hidden) (s .hides))
     good-front c e t (p ∷ q ∷ ps) s = rw (steps-stores p (q ∷ ps))
-        (front-all (λ s. InBlocks g b (s .at)) (p .hidden) (p .commit) (concat (planEpochs (q ∷ ps))) (hidden-blocks c e t (p .hidden) (s .0 .hides)) (in-blocks c e (p .commit .at) (s .0 .within))
+        (front-all (λ s. InBlocks g b (s .at)) (p .hidden) (p .commit) (concat (planEpochs (q ∷ ps))) (hidden-blocks g fit b c e t (p .hidden) (s .0 .hides)) (in-blocks g b c e (p .commit .at) (s .0 .within))
         (good-front (committed c p) (length-committed c p ∙ e) (s .0 .board) (q ∷ ps) (s .1)))
 
 -- ---- A plan of good steps

@@ -10,7 +10,7 @@ use lib.Dec.{T}
 use Rattle.model.specs.declared.Inode.{Inode}
 use Rattle.model.specs.Layout.{Layout, Fits}
 use Rattle.model.specs.Tree.{span, least, cell}
-use Rattle.model.specs.Board.{free, accepted, liveBlocks, blockCount, rootHeight, rootBlock, root, size, inodeOf}
+use Rattle.model.specs.Board.{free, accepted, liveBlocks, blockCount, root, size}
 use Rattle.model.specs.Store.{Store, performed, stores}
 use Rattle.model.specs.Plan.{plan}
 use Rattle.model.specs.Fresh.{freshNeed, need}
@@ -50,10 +50,9 @@ descend-need W pos fresh b (suc h) (suc k) n o new c a within = elim (split (o %
   | inr more ↦ rw (descend-stop W fresh b new c h k n o a more) (suc h, o, length-build W pos b fresh (suc h) (suc k) n o new c ∙ fresh-quiet W b (suc h) (suc k) n o (length new) (inr (inr within)))
 ]
 
-module _ (g : Layout) (pos : 0 < g .words) (fresh : ℕ → ℕ) (b : List ℕ) (f : ℕ) where
-  pub growth-takes-levels : (h : ℕ) → 0 < rootBlock g b f → growthTo g fresh (inodeOf g b f) h .taken ≡ h - rootHeight g b f
-  unfolding growthTo plan
-  growth-takes-levels h there = length-levels (g .words) fresh (rootBlock g b f) (h - rootHeight g b f) there
+pub growth-takes-levels : (g : Layout) (fresh : ℕ → ℕ) (n : Inode) (h : ℕ) → 0 < n .root / g .words → growthTo g fresh n h .taken ≡ h - n .root % g .words
+unfolding growthTo plan
+growth-takes-levels g fresh n h there = length-levels (g .words) fresh (n .root / g .words) (h - n .root % g .words) there
 
 module _ (g : Layout) (pos : 0 < g .words) (fresh : ℕ → ℕ) (b : List ℕ) (n : Inode) where
   module _ (new : List ℕ) (c : ℕ) where

@@ -40,7 +40,7 @@ unfoldable pub levelTop : (ℕ → ℕ) → ℕ → ℕ → ℕ
 levelTop fresh zero d = 0
 levelTop fresh (suc k) d = levelBelow fresh (suc k) d
 
--- Ways 2 and 4 to 6 take the file's inode as numbers, n.
+-- Ways 2 and 4 to 6 take the file's inode, n. In `descend` n is the number of a tree's bytes below the size, in `lengthPlan` the new length.
 
 -- *If s > 0 and e exceeds the span*
 abbrev pub growing : (g : Layout) (n : Inode) (e : ℕ) → Bool

@@ -1,4 +1,4 @@
--- A power cut: the calls that the rule speaks of, what a file is to read as, and what stands. Document 01, 'The power-cut rule', with
+-- A power cut: the calls that the rule speaks of, the blocks that they give up, what a file is to read as, and what stands. Document 01, 'The power-cut rule', with
 -- N3 of document 02. *The cabinet sets a barrier of its own after each plan's last store*, so one plan is looked at by itself.
 use mathlib.Core.Bool.{Bool, _&&_}
 use mathlib.Core.List.{List, [], _∷_, _++_}
@@ -26,7 +26,7 @@ unfoldable pub fileOf : Change → ℕ
 fileOf (writing f o new) = f
 fileOf (lengthTo f n) = f
 
--- what the call answers and leaves in the plan slice, with blocks taken in the order `fresh`, and as it is
+-- what the call answers and leaves in the plan slice, with blocks taken in the order `fresh`; `called` is the call as it is, with the lowest first
 unfoldable pub calledFrom : (g : Layout) (fresh : ℕ → ℕ) (b : List ℕ) → Change → List ℕ → Planned
 calledFrom g fresh b (writing f o new) slice = writeFrom g b fresh f o (new .values) slice
 calledFrom g fresh b (lengthTo f n) slice = setLength g b f n slice
@@ -34,7 +34,7 @@ calledFrom g fresh b (lengthTo f n) slice = setLength g b f n slice
 unfoldable pub called : Layout → List ℕ → Change → List ℕ → Planned
 called g b c slice = calledFrom g (lowest g b) b c slice
 
--- the plan that the call lays out where it is not refused, and the blocks that it gives up then
+-- the plan that the call lays out where it is not refused
 unfoldable pub planFrom : (g : Layout) (fresh : ℕ → ℕ) (b : List ℕ) → Change → Plan
 planFrom g fresh b (writing f o new) = writePlan g fresh b f o (new .values)
 planFrom g fresh b (lengthTo f n) = lengthPlan g b f n
@@ -42,6 +42,7 @@ planFrom g fresh b (lengthTo f n) = lengthPlan g b f n
 unfoldable pub planFor : Layout → List ℕ → Change → Plan
 planFor g b c = planFrom g (lowest g b) b c
 
+-- the blocks that it gives up then
 unfoldable pub givenUp : (g : Layout) (fresh : ℕ → ℕ) (b : List ℕ) → Change → List ℕ
 givenUp g fresh b (writing f o new) = writeGives g fresh b f o (new .values)
 givenUp g fresh b (lengthTo f n) = lengthGives g b f n

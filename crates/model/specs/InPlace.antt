@@ -15,8 +15,8 @@ unfoldable pub atBlock : WalkEnd → Bool
 atBlock Hole = false
 atBlock (Block k) = true
 
--- the store to a pointer at address a that isn't live, where `new` is written beneath it: `hook h l c` is what a pointer over height h gets that leads to
--- l of the bytes
+-- the store to a pointer at address a that isn't live, where `new` is written beneath it, none where that is no byte: `hook h l c` is what a pointer over
+-- height h gets that leads to l of the bytes, with c fresh blocks taken before
 unfoldable pub hooked : (hook : ℕ → ℕ → ℕ → ℕ) (h : ℕ) → List ℕ → ℕ → ℕ → List Store
 hooked hook h [] c a = []
 hooked hook h (x ∷ new) c a = store a (hook h (suc (length new)) c) ∷ []

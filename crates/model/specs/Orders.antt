@@ -1,5 +1,5 @@
--- PlanRule, FreshRule, PowerCutRule and AccuracyRule of Claims for any order of taking blocks, document 01's among them; that the plans are safe; and which
--- blocks are live afterwards.
+-- PlanRule, FreshRule, PowerCutRule and AccuracyRule of Claims for any order of taking blocks, document 01's among them; that the plans are safe
+-- and leave walks in other files; and which blocks are live afterwards.
 use mathlib.Core.Path.{_≡_}
 use mathlib.Core.Logic.{_≢_, _↔_}
 use mathlib.Core.List.{List, map}
@@ -25,6 +25,10 @@ pub record Order (g : Layout) (b : List ℕ) (fresh : ℕ → ℕ) : Type 0 wher
 abbrev pub LowestRule : Type 0
 LowestRule = (g : Layout) (b : List ℕ) → Order g b (lowest g b)
 
+-- the blocks that a call takes
+abbrev takenBlocks : (g : Layout) (fresh : ℕ → ℕ) (b : List ℕ) → Change → List ℕ
+takenBlocks g fresh b c = tabulate (planFrom g fresh b c .taken) fresh
+
 module _ (g : Layout) (fresh : ℕ → ℕ) (b : List ℕ) (c : Change) (slice : List ℕ) where
   abbrev call : Planned
   call = calledFrom g fresh b c slice
@@ -36,14 +40,10 @@ module _ (g : Layout) (fresh : ℕ → ℕ) (b : List ℕ) (c : Change) (slice :
   abbrev wanted : List ℕ
   wanted = after c (call .answer) (contents g b (fileOf c))
 
-  -- the blocks that it takes
-  abbrev taken : List ℕ
-  taken = tabulate (planFrom g fresh b c .taken) fresh
-
   -- What is promised of a call with blocks taken in the order `fresh`: PlanRule, FreshRule, PowerCutRule and AccuracyRule of Claims
   pub record Promised : Type 0 where
     pub shaped : Shaped ss × T (all (λ s. inRange g b (s .at / g .words)) (stores ss))
-    pub takes : 0 < length ss → (k : ℕ) → T (member k (free g b)) → T (member k (map (λ s. s .at / g .words) (stores ss))) ↔ T (member k taken)
+    pub takes : 0 < length ss → (k : ℕ) → T (member k (free g b)) → T (member k (map (λ s. s .at / g .words) (stores ss))) ↔ T (member k (takenBlocks g fresh b c))
     -- it is a safe plan, in which the last epoch decides
     pub safe : SafePlan g b (fileOf c) (epochs ss) (length (epochs ss) - 1)
     pub cuts : (x : Cut) → Names ss x → CutSafe g b (standing ss x b) (fileOf c) wanted ss (lastArrived ss x)
@@ -53,7 +53,7 @@ module _ (g : Layout) (fresh : ℕ → ℕ) (b : List ℕ) (c : Change) (slice :
     -- and, where it is done, that the live blocks after it and those given up are the live blocks before it and those taken, each as often as it occurs:
     -- the live blocks are then those before, less those given up, and those taken and kept
     pub lives : (n : ℕ) → call .answer ≡ Done n
-        → (q : ℕ) → occ q (liveBlocks g (performed b (stores ss))) + occ q (givenUp g fresh b c) ≡ occ q (liveBlocks g b) + occ q taken
+        → (q : ℕ) → occ q (liveBlocks g (performed b (stores ss))) + occ q (givenUp g fresh b c) ≡ occ q (liveBlocks g b) + occ q (takenBlocks g fresh b c)
 
 -- for every accepted board, every order, both calls and all arguments
 abbrev pub OrderRule : Type 0

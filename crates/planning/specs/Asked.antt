@@ -23,7 +23,7 @@ pub record File (b : List ℕ) (f : ℕ) : Type 0 where
   pub file : f < 32
 
 -- A write of at least one byte that ends within bounds, on any board, to the file with inode n: a live root has one of the heights, and the size stands
--- in the word after it; and the table of free blocks
+-- in the word after it; the board has fewer than 2^64 words; and the table of free blocks
 pub record Growable (b : List ℕ) (n : Inode) (o : ℕ) (new table : List ℕ) : Type 0 where
   pub some : 0 < length new
   pub end : o + length new ≤ 32768
@@ -32,7 +32,7 @@ pub record Growable (b : List ℕ) (n : Inode) (o : ℕ) (new table : List ℕ) 
   pub address : n .at + 1 < 2 ^ 64
   pub low : 0 < n .size → n .root % 8 ≤ 3
 
--- one that no refusal up to 6 turns away
+-- a write to file f of an accepted board that no refusal up to 6 turns away, and the table of free blocks
 pub record Asked (b : List ℕ) (f o : ℕ) (new table : List ℕ) : Type 0 where
   pub of : File b f
   pub some : 0 < length new

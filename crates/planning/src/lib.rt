@@ -98,7 +98,8 @@ pub fn plan_grown(
     )
 }
 
-// Plans a write. A single word is never one that growth comes before, so the lent board decides it. The inode is read here and nowhere below.
+// Plans a write. A single word is never one that growth comes before, so the lent board decides it. The inode is read here. Below, only a shadow inside
+// the file reads the word again that it commits to, for its low bits, and that may be the root.
 pub fn plan_write(
     board: &[u64],
     free: &[u64],

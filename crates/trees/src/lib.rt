@@ -21,8 +21,9 @@ pub fn span(h: u64) -> u64
     64 << (3 * h)
 }
 
-// The block where the walk to byte i of a tree ends, 0 in a hole: a pointer is followed at each call. A read walks to each block, so this is written
-// for the call to be compiled to a jump: it answers a number, and lends a reference to the slice, where a slice is laid in memory anew for each call.
+// The block where the walk to byte i of a tree ends, 0 in a hole: in the contract `ending r 1` is Block(r), or Hole where r is 0. A pointer is followed at
+// each call but the last. A read walks to each block, so this is written for the call to be compiled to a jump: it answers a number, and lends a reference
+// to the slice, where a slice is laid in memory anew for each call.
 fn reached(board: &&[u64], h: u64, k: u64, n: u64, i: u64) -> u64
     requires { ⌜ h < 8 ⌝ }
     ensures { λ r. ⌜ ending r 1 ≡ walk 8 (now (now (board .entry))) h k n i ⌝ }

@@ -15,7 +15,7 @@ pub record Descended (c : List ℕ) (h k n o : ℕ) (new : List ℕ) (a : ℕ) (
   pub is : (fresh : ℕ → ℕ) (t : ℕ) → descend 8 fresh c h k n o new t a ≡ record { at = r .at; pages = build 8 fresh c (r .height) (r .block) (r .left) (r .offset) new t }
   pub low : r .height ≤ h
 
--- A write of `new` at o of the file with inode n, which stays within the bounds; the tree spans it. The size stands in the word after the root
+-- A write of `new` at o that stays within the bounds, to the file with inode n, whose tree spans it. The size stands in the word after the root
 pub record Ready (n : Inode) (o : ℕ) (new free : List ℕ) (base taken : ℕ) : Type 0 where
   pub blocks : Blocks free
   pub some : 0 < length new
