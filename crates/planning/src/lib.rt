@@ -56,7 +56,7 @@ fn grows(inode: Inode, e: u64) -> bool
 }
 
 // Plans growth, where it is due, and what follows on the grown board.
-pub fn plan_grown(
+fn plan_grown(
     board: &[u64],
     free: &[u64],
     plan: &mut [u64],
