@@ -1,5 +1,7 @@
 -- The figures of a kind of board. Document 01 has one kind, the house's; definitions and laws take any.
 use Prim.Native.Nat.{ℕ, _+_, _*_, _^_, _≤_, _<_}
+use Rattle.model.specs.declared.Kind.{Kind}
+use Rattle.model.specs.declared.Kind.the-variants.{House, Published}
 
 pub record Layout : Type 0 where
   -- words per block
@@ -17,6 +19,15 @@ pub record Layout : Type 0 where
 -- document 01's board
 abbrev pub house : Layout
 house = record { words = 8; height = 3; leaves = 8; inodes = 4; mark = 1; most = 1024 }
+
+-- a board with the published block, of 512 words. No call takes one yet; code is proved for its figures too
+abbrev pub published : Layout
+published = record { words = 512; height = 1; leaves = 1; inodes = 32; mark = 3; most = 512 }
+
+-- the figures of each kind
+abbrev pub layoutOf : Kind → Layout
+layoutOf House = house
+layoutOf Published = published
 
 -- how many files there are
 unfoldable pub files : Layout → ℕ

@@ -41,3 +41,11 @@ pub struct Inode {
     pub root: u64,
     pub size: u64,
 }
+
+// A kind of board; specs/Layout.antt has each kind's figures. Calls take the house's alone.
+pub enum Kind {
+    // document 01's: blocks of 8 words
+    House,
+    // blocks of 512 words
+    Published,
+}

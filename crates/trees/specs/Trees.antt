@@ -2,21 +2,27 @@
 use mathlib.Core.Path.{_≡_}
 use mathlib.Core.Bool.{Bool}
 use mathlib.Core.List.{List}
-use Prim.Native.Nat.{ℕ, _≤_, _<_}
+use Prim.Native.Nat.{ℕ, _^_, _≤_, _<_}
 use lib.ListN.{length}
 use Rattle.model.specs.Tree.{span, blocks, sound}
+use Rattle.words.specs.Width.{Width}
 use Rattle.trees.specs.Marks.{Marked}
 
-pub record Spanned (h r : ℕ) : Type 0 where
-  pub is : r ≡ span 8 h
+-- a tree whose span can be computed: of height 0 to 7 on a house board, 0 to 1 with the published block
+pub record Reach (bits h : ℕ) : Type 0 where
+  pub width : Width bits
+  pub spans : span (2 ^ bits) h ≤ 134217728
+
+pub record Spanned (W h r : ℕ) : Type 0 where
+  pub is : r ≡ span W h
   pub low : 64 ≤ r
   pub high : r ≤ 134217728
 
 -- a crawl marks the live blocks of a tree
-pub record Crawled (top : ℕ) (b : List ℕ) (h k n : ℕ) (m : List ℕ) (ok : Bool) (m′ : List ℕ) : Type 0 where
-  pub crawled : Marked (sound 8 b top h k n) (blocks 8 b h k n) m ok m′
+pub record Crawled (W top : ℕ) (b : List ℕ) (h k n : ℕ) (m : List ℕ) (ok : Bool) (m′ : List ℕ) : Type 0 where
+  pub crawled : Marked (sound W b top h k n) (blocks W b h k n) m ok m′
 
 -- r is how many live blocks a tree has
-pub record Counted (b : List ℕ) (h k n r : ℕ) : Type 0 where
-  pub is : r ≡ length (blocks 8 b h k n)
-  pub most : r < span 8 h
+pub record Counted (W : ℕ) (b : List ℕ) (h k n r : ℕ) : Type 0 where
+  pub is : r ≡ length (blocks W b h k n)
+  pub most : r < span W h

@@ -1,32 +1,35 @@
 // Trees of blocks: the walk to a byte, the crawl that marks live blocks, and their count. A tree is (h, k, n), as in the
-// definitions: its height, its block, and how many of its bytes lie below the file's size.
+// definitions: its height, its block, and how many of its bytes lie below the file's size. A block has 2 ^ bits words.
 use model::WalkEnd;
+use words::block_of;
 use words::cell;
+use words::low_of;
 use words::put;
+use words::width;
 use words::word;
 ghost use mathlib.Core.Path.{_≡_};
 ghost use mathlib.Core.List.{[], _∷_};
-ghost use Prim.Native.Nat.{_<_};
+ghost use Prim.Native.Nat.{_%_, _^_};
 ghost use lib.Dec.{ltb};
 ghost use Rattle.model.specs.Tree.{ending, walk};
 ghost use Rattle.model.specs.Board.{rootWalk};
-ghost use Rattle.trees.specs.Trees.{Spanned, Crawled, Counted};
+ghost use Rattle.trees.specs.Trees.{Reach, Spanned, Crawled, Counted};
 ghost use Rattle.trees.specs.Marks.{Marked};
 
-// The bytes that a tree of height h spans. A shift, since a walk divides by it. The low bits of any root are below 8.
-pub fn span(h: u64) -> u64
-    requires { ⌜ h < 8 ⌝ }
-    ensures { λ r. ⌜ Spanned h r ⌝ }
+// The bytes that a tree of height h spans. A shift, since a walk divides by it.
+pub fn span(bits: u64, h: u64) -> u64
+    requires { ⌜ Reach bits h ⌝ }
+    ensures { λ r. ⌜ Spanned (2 ^ bits) h r ⌝ }
 {
-    64 << (3 * h)
+    8 << (bits * (h + 1))
 }
 
 // The block where the walk to byte i of a tree ends, 0 in a hole: in the contract `ending r 1` is Block(r), or Hole where r is 0. A pointer is followed at
 // each call but the last. A read walks to each block, so this is written for the call to be compiled to a jump: it answers a number, and lends a reference
 // to the slice, where a slice is laid in memory anew for each call.
-fn reached(board: &&[u64], h: u64, k: u64, n: u64, i: u64) -> u64
-    requires { ⌜ h < 8 ⌝ }
-    ensures { λ r. ⌜ ending r 1 ≡ walk 8 (now (now (board .entry))) h k n i ⌝ }
+fn reached(bits: u64, board: &&[u64], h: u64, k: u64, n: u64, i: u64) -> u64
+    requires { ⌜ Reach bits h ⌝ }
+    ensures { λ r. ⌜ ending r 1 ≡ walk (2 ^ bits) (now (now (board .entry))) h k n i ⌝ }
 {
     if n == 0 {
         return 0;
@@ -37,21 +40,22 @@ fn reached(board: &&[u64], h: u64, k: u64, n: u64, i: u64) -> u64
     if h == 0 {
         return k;
     }
-    let s = span(h - 1);
+    let s = span(bits, h - 1);
     let j = i / s;
     let first = j * s;
     if n <= first {
         return 0;
     }
-    reached(board, h - 1, cell(*board, k, j) / 8, n - first, i - first)
+    let below = block_of(bits, cell(bits, *board, k, j));
+    reached(bits, board, h - 1, below, n - first, i - first)
 }
 
 // The walk to byte i of a tree.
-pub fn walk(board: &[u64], h: u64, k: u64, n: u64, i: u64) -> WalkEnd
-    requires { ⌜ h < 8 ⌝ }
-    ensures { λ r. ⌜ r ≡ walk 8 (now (board .entry)) h k n i ⌝ }
+pub fn walk(bits: u64, board: &[u64], h: u64, k: u64, n: u64, i: u64) -> WalkEnd
+    requires { ⌜ Reach bits h ⌝ }
+    ensures { λ r. ⌜ r ≡ walk (2 ^ bits) (now (board .entry)) h k n i ⌝ }
 {
-    let block = reached(&board, h, k, n, i);
+    let block = reached(bits, &board, h, k, n, i);
     if block == 0 {
         return WalkEnd::Hole;
     }
@@ -59,14 +63,15 @@ pub fn walk(board: &[u64], h: u64, k: u64, n: u64, i: u64) -> WalkEnd
 }
 
 // The walk from a root word to byte i of a file of n bytes.
-pub fn root_walk(board: &[u64], root: u64, n: u64, i: u64) -> WalkEnd
-    ensures { λ r. ⌜ r ≡ rootWalk 8 (now (board .entry)) root n i ⌝ }
+pub fn root_walk(bits: u64, board: &[u64], root: u64, n: u64, i: u64) -> WalkEnd
+    requires { ⌜ Reach bits (root % 2 ^ bits) ⌝ }
+    ensures { λ r. ⌜ r ≡ rootWalk (2 ^ bits) (now (board .entry)) root n i ⌝ }
 {
-    let h = root % 8;
-    if span(h) <= i {
+    let h = low_of(bits, root);
+    if span(bits, h) <= i {
         return WalkEnd::Hole;
     }
-    walk(board, h, root / 8, n, i)
+    walk(bits, board, h, block_of(bits, root), n, i)
 }
 
 // Marks block k; whether it lies below top and was not marked before.
@@ -84,9 +89,9 @@ pub fn claim(marks: &mut [u64], top: u64, k: u64) -> bool
 }
 
 // Marks the live blocks of a tree; whether its live pointers are as they must be and none of its blocks was marked before.
-pub fn crawl(board: &[u64], marks: &mut [u64], top: u64, h: u64, k: u64, n: u64) -> bool
-    requires { ⌜ h < 8 ⌝ }
-    ensures { λ r. ⌜ Crawled top (now (board .entry)) h k n (now (marks .entry)) r (now (marks .exit)) ⌝ }
+pub fn crawl(bits: u64, board: &[u64], marks: &mut [u64], top: u64, h: u64, k: u64, n: u64) -> bool
+    requires { ⌜ Reach bits h ⌝ }
+    ensures { λ r. ⌜ Crawled (2 ^ bits) top (now (board .entry)) h k n (now (marks .entry)) r (now (marks .exit)) ⌝ }
 {
     if n == 0 {
         return true;
@@ -100,16 +105,17 @@ pub fn crawl(board: &[u64], marks: &mut [u64], top: u64, h: u64, k: u64, n: u64)
     if h == 0 {
         return true;
     }
-    let s = span(h - 1);
+    let s = span(bits, h - 1);
+    let w = width(bits);
     let mut j = 0;
-    while j < 8 {
+    while j < w {
         let first = j * s;
         if first < n {
-            let p = cell(board, k, j);
-            if p % 8 != 0 {
+            let p = cell(bits, board, k, j);
+            if low_of(bits, p) != 0 {
                 return false;
             }
-            if !crawl(board, marks, top, h - 1, p / 8, n - first) {
+            if !crawl(bits, board, marks, top, h - 1, block_of(bits, p), n - first) {
                 return false;
             }
         }
@@ -119,9 +125,9 @@ pub fn crawl(board: &[u64], marks: &mut [u64], top: u64, h: u64, k: u64, n: u64)
 }
 
 // How many live blocks a tree has, pointer blocks and data blocks.
-pub fn held_count(board: &[u64], h: u64, k: u64, n: u64) -> u64
-    requires { ⌜ h < 8 ⌝ }
-    ensures { λ r. ⌜ Counted (now (board .entry)) h k n r ⌝ }
+pub fn held_count(bits: u64, board: &[u64], h: u64, k: u64, n: u64) -> u64
+    requires { ⌜ Reach bits h ⌝ }
+    ensures { λ r. ⌜ Counted (2 ^ bits) (now (board .entry)) h k n r ⌝ }
 {
     if n == 0 {
         return 0; // not live
@@ -132,13 +138,20 @@ pub fn held_count(board: &[u64], h: u64, k: u64, n: u64) -> u64
     if h == 0 {
         return 1;
     }
-    let s = span(h - 1);
+    let s = span(bits, h - 1);
+    let w = width(bits);
     let mut count = 1;
     let mut j = 0;
-    while j < 8 {
+    while j < w {
         let start = j * s;
         if start < n {
-            count += held_count(board, h - 1, cell(board, k, j) / 8, n - start);
+            count += held_count(
+                bits,
+                board,
+                h - 1,
+                block_of(bits, cell(bits, board, k, j)),
+                n - start,
+            );
         }
         j += 1;
     }

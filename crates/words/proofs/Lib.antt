@@ -1,2 +1,3 @@
 pub mod Off
 pub mod Filling
+pub mod Widths

@@ -1,9 +1,10 @@
 // Words of a board and bytes of a word. Access is total, as the definitions' is: a word off the slice reads 0, a store off it does nothing.
 ghost use mathlib.Core.Path.{_≡_};
-ghost use Prim.Native.Nat.{_≤_, _<_};
+ghost use Prim.Native.Nat.{_*_, _/_, _%_, _^_, _≤_, _<_};
 ghost use lib.ListN.{length, getD, set};
 ghost use Rattle.model.specs.Words.{byteOf};
 ghost use Rattle.model.specs.Tree.{cell};
+ghost use Rattle.words.specs.Width.{Width, Wide};
 ghost use Rattle.words.specs.Filled.{Filled};
 
 // The word at an index.
@@ -24,17 +25,52 @@ pub fn put(words: &mut [u64], at: u64, value: u64)
     }
 }
 
-// Word j of block k.
-pub fn cell(board: &[u64], k: u64, j: u64) -> u64
-    ensures { λ r. ⌜ r ≡ cell 8 (now (board .entry)) k j ⌝ }
+// A block has 2 ^ bits words: 8 on a house board (bits is 3), 512 on one with the published block (9).
+pub fn width(bits: u64) -> u64
+    requires { ⌜ Width bits ⌝ }
+    ensures { λ r. ⌜ Wide bits r ⌝ }
+{
+    1 << bits
+}
+
+// The block of a pointer: what is left of it without its low bits.
+pub fn block_of(bits: u64, p: u64) -> u64
+    requires { ⌜ bits < 64 ⌝ }
+    ensures { λ r. ⌜ r ≡ p / 2 ^ bits ⌝ }
+{
+    p >> bits
+}
+
+// The low bits of a pointer.
+pub fn low_of(bits: u64, p: u64) -> u64
+    requires { ⌜ bits < 64 ⌝ }
+    ensures { λ r. ⌜ r ≡ p % 2 ^ bits ⌝ }
+{
+    p - ((p >> bits) << bits)
+}
+
+// Where block k begins: the pointer to it.
+pub fn start_of(bits: u64, k: u64) -> u64
+    requires { ⌜ (bits < 64) × (2 ^ bits * k < 2 ^ 64) ⌝ }
+    ensures { λ r. ⌜ r ≡ 2 ^ bits * k ⌝ }
+{
+    k << bits
+}
+
+// Word j of block k. A block that begins past the end is told by its number: where it would begin may be no word.
+pub fn cell(bits: u64, board: &[u64], k: u64, j: u64) -> u64
+    requires { ⌜ Width bits ⌝ }
+    ensures { λ r. ⌜ r ≡ cell (2 ^ bits) (now (board .entry)) k j ⌝ }
 {
     let n = board.len() as u64;
-    if k < n {
-        if j < n {
-            return word(board, 8 * k + j);
-        }
+    if block_of(bits, n) < k {
+        return 0;
     }
-    0
+    let start = start_of(bits, k);
+    if n - start <= j {
+        return 0;
+    }
+    board[(start + j) as usize]
 }
 
 // Byte i of a word.

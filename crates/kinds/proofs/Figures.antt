@@ -1,0 +1,60 @@
+-- What every kind's figures have in common.
+use mathlib.Core.Path.{_≡_, refl}
+use Prim.Native.Nat.{ℕ, _≤_, _<_}
+use native.Mathlib.Omega.{arith}
+use Rattle.model.specs.declared.Kind.{Kind}
+use Rattle.model.specs.declared.Kind.the-variants.{House, Published}
+use Rattle.model.specs.Layout.{layoutOf, files, Fits}
+use Rattle.model.specs.Tree.{span}
+use Rattle.model.specs.Board.{greatest}
+use Rattle.model.proofs.Spans.{span-mono}
+use Rattle.model.proofs.Formatted.{house-fits}
+use Rattle.trees.specs.Trees.{Reach}
+use Rattle.kinds.specs.Figures.{Bits}
+
+-- the laws hold of its boards
+pub fits : (k : Kind) → Fits (layoutOf k)
+fits House = house-fits
+fits Published = record {
+  trailer-fits = omega arith;
+  leaves-fit = omega arith;
+  inodes-fit = omega arith;
+  inodes-some = omega arith;
+  heights-fit = omega arith;
+  format-fits = omega arith;
+  addresses-fit = omega arith;
+}
+
+-- a block has words
+pub words-pos : (k : Kind) → 0 < layoutOf k .words
+words-pos House = omega arith
+words-pos Published = omega arith
+
+-- 1,024 marks are enough for every board
+pub few : (k : Kind) → layoutOf k .most ≤ 1024
+few House = omega arith
+few Published = omega arith
+
+-- there are 32 files
+pub files-32 : (k : Kind) → files (layoutOf k) ≡ 32
+unfolding files
+files-32 House = refl
+files-32 Published = refl
+
+pub low-height : (k : Kind) (h : ℕ) → h ≤ layoutOf k .height → h ≤ 3
+low-height House h l = l
+low-height Published h l = omega arith
+
+pub small-sizes : (k : Kind) → greatest (layoutOf k) ≤ 2097152
+unfolding greatest span
+small-sizes House = omega arith
+small-sizes Published = omega arith
+
+-- the span of every height that a root may have can be computed
+spans : (k : Kind) (h : ℕ) → h ≤ layoutOf k .height → span (layoutOf k .words) h ≤ 134217728
+unfolding span
+spans House h l = omega (arith, span-mono 8 (omega arith) h 3 l)
+spans Published h l = omega (arith, span-mono 512 (omega arith) h 1 l)
+
+pub reach : (k : Kind) {r h : ℕ} → Bits k r → h ≤ layoutOf k .height → Reach r h
+reach k {r} {h} b l = record { width = b .width; spans = rw (b .is) at (spans k h l) }
