@@ -1,87 +1,105 @@
-// A board: where its words stand, and whether its word count and its trailer are as they must be.
+// A board of some kind: where its words stand, and whether its word count and its trailer are as they must be.
+use kinds::bits;
+use kinds::inode_bits;
+use kinds::mark;
+use kinds::most;
+use model::Kind;
+use words::block_of;
 use words::cell;
+use words::low_of;
+use words::start_of;
+use words::width;
 ghost use mathlib.Core.Path.{_≡_};
 ghost use Prim.Native.Nat.{_-_};
-ghost use Rattle.model.specs.Layout.{house};
+ghost use Rattle.model.specs.Layout.{layoutOf};
 ghost use Rattle.model.specs.Board.{trailerWord, blockCount, trailer, inodePointer, root, size, wordCountSound, trailerSound};
 ghost use Rattle.boards.specs.Trailers.{trailerWordsSound};
 
 // The number of blocks.
-pub fn block_count(board: &[u64]) -> u64
-    ensures { λ r. ⌜ r ≡ blockCount house (now (board .entry)) ⌝ }
+pub fn block_count(kind: Kind, board: &[u64]) -> u64
+    ensures { λ r. ⌜ r ≡ blockCount (layoutOf kind) (now (board .entry)) ⌝ }
 {
-    board.len() as u64 / 8
+    block_of(bits(kind), board.len() as u64)
 }
 
 // The last block, the trailer. Those that files may use lie below it.
-pub fn last(board: &[u64]) -> u64
-    ensures { λ r. ⌜ r ≡ blockCount house (now (board .entry)) - 1 ⌝ }
+pub fn last(kind: Kind, board: &[u64]) -> u64
+    ensures { λ r. ⌜ r ≡ blockCount (layoutOf kind) (now (board .entry)) - 1 ⌝ }
 {
-    let n = block_count(board);
+    let n = block_count(kind, board);
     if n == 0 { 0 } else { n - 1 }
 }
 
 // Word j of the trailer.
-pub fn trailer(board: &[u64], j: u64) -> u64
-    ensures { λ r. ⌜ r ≡ trailer house (now (board .entry)) j ⌝ }
+pub fn trailer(kind: Kind, board: &[u64], j: u64) -> u64
+    ensures { λ r. ⌜ r ≡ trailer (layoutOf kind) (now (board .entry)) j ⌝ }
 {
-    cell(board, last(board), j)
+    cell(bits(kind), board, last(kind, board), j)
 }
 
 // Inode pointer l.
-pub fn inode_pointer(board: &[u64], l: u64) -> u64
-    ensures { λ r. ⌜ r ≡ inodePointer house (now (board .entry)) l ⌝ }
+pub fn inode_pointer(kind: Kind, board: &[u64], l: u64) -> u64
+    ensures { λ r. ⌜ r ≡ inodePointer (layoutOf kind) (now (board .entry)) l ⌝ }
 {
-    cell(board, trailer(board, 0) / 8, l)
+    let b = bits(kind);
+    cell(b, board, block_of(b, trailer(kind, board, 0)), l)
 }
 
 // The root word of a file.
-pub fn root(board: &[u64], f: u64) -> u64
-    ensures { λ r. ⌜ r ≡ root house (now (board .entry)) f ⌝ }
+pub fn root(kind: Kind, board: &[u64], f: u64) -> u64
+    ensures { λ r. ⌜ r ≡ root (layoutOf kind) (now (board .entry)) f ⌝ }
 {
-    cell(board, inode_pointer(board, f / 4) / 8, 2 * (f % 4))
+    let b = bits(kind);
+    let i = inode_bits(kind);
+    let p = inode_pointer(kind, board, block_of(i, f));
+    cell(b, board, block_of(b, p), 2 * low_of(i, f))
 }
 
 // The size of a file.
-pub fn size(board: &[u64], f: u64) -> u64
-    ensures { λ r. ⌜ r ≡ size house (now (board .entry)) f ⌝ }
+pub fn size(kind: Kind, board: &[u64], f: u64) -> u64
+    ensures { λ r. ⌜ r ≡ size (layoutOf kind) (now (board .entry)) f ⌝ }
 {
-    cell(board, inode_pointer(board, f / 4) / 8, 2 * (f % 4) + 1)
+    let b = bits(kind);
+    let i = inode_bits(kind);
+    let p = inode_pointer(kind, board, block_of(i, f));
+    cell(b, board, block_of(b, p), 2 * low_of(i, f) + 1)
 }
 
-// Whether the board has 128 to 8,192 words, a multiple of 8.
-pub fn word_count_sound(board: &[u64]) -> bool
-    ensures { λ r. ⌜ r ≡ wordCountSound house (now (board .entry)) ⌝ }
+// Whether the board has 16 blocks to the most of its kind, and no part of one.
+pub fn word_count_sound(kind: Kind, board: &[u64]) -> bool
+    ensures { λ r. ⌜ r ≡ wordCountSound (layoutOf kind) (now (board .entry)) ⌝ }
 {
-    let n = board.len();
-    if n < 128 {
+    let b = bits(kind);
+    let n = board.len() as u64;
+    if n < start_of(b, 16) {
         return false;
     }
-    if 8192 < n {
+    if start_of(b, most(kind)) < n {
         return false;
     }
-    n % 8 == 0
+    low_of(b, n) == 0
 }
 
 // What word j of the trailer must be, from word 1 on, on a board of so many blocks.
-pub fn trailer_word(blocks: u64, j: u64) -> u64
-    ensures { λ r. ⌜ r ≡ trailerWord house blocks j ⌝ }
+pub fn trailer_word(kind: Kind, blocks: u64, j: u64) -> u64
+    ensures { λ r. ⌜ r ≡ trailerWord (layoutOf kind) blocks j ⌝ }
 {
     match j {
         1 => 512,
         2 => blocks,
-        3 => 1,
+        3 => mark(kind),
         _ => 0,
     }
 }
 
-// Whether words 1 to 7 of the trailer are as they must be.
-pub fn trailer_words_sound(board: &[u64]) -> bool
-    ensures { λ r. ⌜ r ≡ trailerWordsSound (now (board .entry)) ⌝ }
+// Whether the words of the trailer from word 1 on are as they must be.
+pub fn trailer_words_sound(kind: Kind, board: &[u64]) -> bool
+    ensures { λ r. ⌜ r ≡ trailerWordsSound (layoutOf kind) (now (board .entry)) ⌝ }
 {
+    let n = width(bits(kind)) - 1;
     let mut j = 0;
-    while j < 7 {
-        if trailer(board, j + 1) != trailer_word(block_count(board), j + 1) {
+    while j < n {
+        if trailer(kind, board, j + 1) != trailer_word(kind, block_count(kind, board), j + 1) {
             return false;
         }
         j += 1;
@@ -90,19 +108,20 @@ pub fn trailer_words_sound(board: &[u64]) -> bool
 }
 
 // Whether the trailer is as it must be.
-pub fn trailer_sound(board: &[u64]) -> bool
-    ensures { λ r. ⌜ r ≡ trailerSound house (now (board .entry)) ⌝ }
+pub fn trailer_sound(kind: Kind, board: &[u64]) -> bool
+    ensures { λ r. ⌜ r ≡ trailerSound (layoutOf kind) (now (board .entry)) ⌝ }
 {
-    let p = trailer(board, 0);
-    if p % 8 != 1 {
+    let b = bits(kind);
+    let p = trailer(kind, board, 0);
+    if low_of(b, p) != 1 {
         return false;
     }
-    let k = p / 8;
+    let k = block_of(b, p);
     if k == 0 {
         return false;
     }
-    if last(board) <= k {
+    if last(kind, board) <= k {
         return false;
     }
-    trailer_words_sound(board)
+    trailer_words_sound(kind, board)
 }

@@ -3,14 +3,17 @@ use model::WalkEnd;
 use trees::root_walk;
 use words::byte;
 use words::cell;
+use words::low_of;
 use words::spread;
+use words::width;
 ghost use mathlib.Core.Path.{_≡_};
-ghost use Prim.Native.Nat.{_+_, _*_, _≤_, min};
+ghost use Prim.Native.Nat.{_+_, _*_, _^_, _≤_, min};
 ghost use lib.ListN.{length};
 ghost use Rattle.model.specs.Tree.{shown};
 ghost use Rattle.model.specs.declared.WalkEnd.the-variants.{Block};
 ghost use Rattle.words.specs.Filled.{Filled};
-ghost use Rattle.files.specs.Filling.{FillResult};
+ghost use Rattle.words.specs.Width.{Width};
+ghost use Rattle.files.specs.Filling.{Rooted, FillResult};
 
 // n zeros, to the front of a buffer.
 pub fn clear(n: usize, out: &mut [u8])
@@ -25,27 +28,27 @@ pub fn clear(n: usize, out: &mut [u8])
 }
 
 // n bytes of block k, from byte `from` of it on, to the front of a buffer.
-pub fn copy_bytes(board: &[u64], k: u64, from: u64, n: usize, out: &mut [u8])
-    requires { ⌜ (n ≤ length (now out)) × (from ≤ 64) ⌝ }
-    ensures { λ _. ⌜ Filled (λ j. shown 8 (now (board .entry)) (Block k) (from + j)) n (now (out .entry)) (now (out .exit)) ⌝ }
+pub fn copy_bytes(bits: u64, board: &[u64], k: u64, from: u64, n: usize, out: &mut [u8])
+    requires { ⌜ (n ≤ length (now out)) × (from ≤ 4096) × Width bits ⌝ }
+    ensures { λ _. ⌜ Filled (λ j. shown (2 ^ bits) (now (board .entry)) (Block k) (from + j)) n (now (out .entry)) (now (out .exit)) ⌝ }
 {
     let mut j = 0;
     while j < n {
         let at = from + j as u64;
-        let x = cell(board, k, at / 8);
+        let x = cell(bits, board, k, at / 8);
         out[j] = byte(x, at % 8);
         j += 1;
     }
 }
 
 // n words of block k, from word `from` of it on, to the front of a buffer.
-pub fn copy_words(board: &[u64], k: u64, from: u64, n: usize, out: &mut [u8])
-    requires { ⌜ (8 * n ≤ length (now out)) × (from ≤ 8) ⌝ }
-    ensures { λ _. ⌜ Filled (λ j. shown 8 (now (board .entry)) (Block k) (8 * from + j)) (8 * n) (now (out .entry)) (now (out .exit)) ⌝ }
+pub fn copy_words(bits: u64, board: &[u64], k: u64, from: u64, n: usize, out: &mut [u8])
+    requires { ⌜ (8 * n ≤ length (now out)) × (from ≤ 512) × Width bits ⌝ }
+    ensures { λ _. ⌜ Filled (λ j. shown (2 ^ bits) (now (board .entry)) (Block k) (8 * from + j)) (8 * n) (now (out .entry)) (now (out .exit)) ⌝ }
 {
     let mut w = 0;
     while w < n {
-        let x = cell(board, k, from + w as u64);
+        let x = cell(bits, board, k, from + w as u64);
         let at = 8 * w;
         spread(x, &mut out[at..]);
         w += 1;
@@ -53,9 +56,9 @@ pub fn copy_words(board: &[u64], k: u64, from: u64, n: usize, out: &mut [u8])
 }
 
 // n bytes from byte `from` on of the block where a walk ended, whole words where that is all of them.
-pub fn copy(board: &[u64], end: WalkEnd, from: u64, n: usize, out: &mut [u8])
-    requires { ⌜ (n ≤ length (now out)) × (from ≤ 64) ⌝ }
-    ensures { λ _. ⌜ Filled (λ j. shown 8 (now (board .entry)) end (from + j)) n (now (out .entry)) (now (out .exit)) ⌝ }
+pub fn copy(bits: u64, board: &[u64], end: WalkEnd, from: u64, n: usize, out: &mut [u8])
+    requires { ⌜ (n ≤ length (now out)) × (from ≤ 4096) × Width bits ⌝ }
+    ensures { λ _. ⌜ Filled (λ j. shown (2 ^ bits) (now (board .entry)) end (from + j)) n (now (out .entry)) (now (out .exit)) ⌝ }
 {
     let WalkEnd::Block(k) = end else {
         clear(n, out);
@@ -63,11 +66,11 @@ pub fn copy(board: &[u64], end: WalkEnd, from: u64, n: usize, out: &mut [u8])
     };
     if from % 8 == 0 {
         if n % 8 == 0 {
-            copy_words(board, k, from / 8, n / 8, out);
+            copy_words(bits, board, k, from / 8, n / 8, out);
             return;
         }
     }
-    copy_bytes(board, k, from, n, out);
+    copy_bytes(bits, board, k, from, n, out);
 }
 
 // The smaller of two numbers.
@@ -78,20 +81,22 @@ fn least(a: usize, b: usize) -> usize
 }
 
 // Fills a buffer with the bytes of a file of n bytes, from byte o on, each piece placed after the last, and answers how many there are.
-pub fn fill(board: &[u64], root: u64, n: u64, o: u64, out: &mut [u8]) -> usize
-    ensures { λ r. ⌜ FillResult (now (board .entry)) root n o (now (out .entry)) r (now (out .exit)) ⌝ }
+pub fn fill(bits: u64, board: &[u64], root: u64, n: u64, o: u64, out: &mut [u8]) -> usize
+    requires { ⌜ Rooted bits root n ⌝ }
+    ensures { λ r. ⌜ FillResult (2 ^ bits) (now (board .entry)) root n o (now (out .entry)) r (now (out .exit)) ⌝ }
 {
     if n <= o {
         return 0;
     }
     let count = least(out.len(), (n - o) as usize);
+    let bytes = 8 * width(bits);
     let mut done = 0;
     while done < count {
         let at = o + done as u64;
-        let from = at % 64;
-        let len = least((64 - from) as usize, count - done);
-        let end = root_walk(board, root, n, at);
-        copy(board, end, from, len, &mut out[done..]);
+        let from = low_of(bits + 3, at);
+        let len = least((bytes - from) as usize, count - done);
+        let end = root_walk(bits, board, root, n, at);
+        copy(bits, board, end, from, len, &mut out[done..]);
         done += len;
     }
     count

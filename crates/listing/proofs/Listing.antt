@@ -32,7 +32,7 @@ module _ (b : List ℕ) (f : ℕ) {n p : ℕ} {out : List ℕ} (es : n ≡ size 
   unfolding fileLine live
   no-line z = rw (← es, z) (loose (omega arith) none)
 
-  pub one-line : {w d r : ℕ} {out′ : List ℕ} → (n ≡ 0 → ⊥) → w ≡ root house b f → Counted b (w % 8) (w / 8) n d →
+  pub one-line : {w d r : ℕ} {out′ : List ℕ} → (n ≡ 0 → ⊥) → w ≡ root house b f → Counted 8 b (w % 8) (w / 8) n d →
       Wrote 106 (line word-file f (field word-size n ++ field word-height (w % 8) ++ field word-held d)) p out r out′ →
       Wrote 106 (fileLine house b f) p out r out′
   unfolding fileLine heldCount fileBlocks rootBlocks

@@ -1,7 +1,10 @@
 // What the lister program prints for a board image.
 use answers::number;
 use images::load;
+use kinds::block_in;
+use kinds::low_in;
 use model::Answer;
+use model::Kind;
 ghost use Prim.Native.Nat.{_+_, _<_, _^_};
 ghost use Rattle.model.specs.Lists.{joined};
 ghost use Rattle.model.specs.Layout.{house};
@@ -15,13 +18,13 @@ fn file(board: &[u64], out: &mut [u8], p: usize, f: u64) -> usize
     requires { ⌜ p + 106 < 2 ^ 64 ⌝ }
     ensures { λ r. ⌜ Wrote 106 (fileLine house (now (board .entry)) f) p (now (out .entry)) r (now (out .exit)) ⌝ }
 {
-    let n = boards::size(board, f);
+    let n = boards::size(Kind::House, board, f);
     if n == 0 {
         return p;
     }
-    let root = boards::root(board, f);
-    let height = root % 8;
-    let held = trees::held_count(board, height, root / 8, n);
+    let root = boards::root(Kind::House, board, f);
+    let height = low_in(Kind::House, root);
+    let held = trees::held_count(3, board, height, block_in(Kind::House, root), n);
     text::file_line(out, p, f, n, height, held)
 }
 
@@ -45,7 +48,7 @@ fn lines(board: &[u64], out: &mut [u8]) -> usize
 {
     match reading::free_count(board) {
         Answer::Done(free) => {
-            let blocks = boards::block_count(board);
+            let blocks = boards::block_count(Kind::House, board);
             let q = text::board_line(out, 0, blocks, free);
             files(board, out, q)
         }

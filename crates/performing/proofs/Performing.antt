@@ -13,14 +13,14 @@ use Rattle.model.specs.declared.Fault.{Fault}
 use Rattle.model.specs.declared.Fault.the-variants.{WordCount, PairCount, Address}
 use Rattle.model.specs.declared.Answer.the-variants.{Done, Refused}
 use Rattle.model.specs.Lists.{all, consIf, filter}
-use Rattle.model.specs.Layout.{house}
+use Rattle.model.specs.Layout.{Layout}
 use Rattle.model.specs.Board.{wordCountSound}
 use Rattle.model.specs.Store.{Store, store, isBarrier, performed, stores, paired}
 use Rattle.model.specs.Answers.{answered, unlessRefused}
 use Rattle.model.specs.Calls.{wordCountFault, performFaults, performAnswer, performBoard}
 use Rattle.model.proofs.Cases.{either}
 use Rattle.model.proofs.Perform.{length-performed, performed-append, stores-append}
-use Rattle.plans.proofs.Pairs.{take-paired}
+use Rattle.performing.proofs.Pairs.{take-paired}
 use Rattle.performing.specs.Results.{PerformResult}
 
 -- ---- Addresses
@@ -110,29 +110,29 @@ module _ (b l : List ℕ) where
 
 -- ---- Ways out
 
-answer-shape : (b l : List ℕ) (k : ℕ) → performAnswer house b l k
-    ≡ cond (not (wordCountSound house b)) (Refused WordCount) (cond (ltb (length l) (2 * k)) (Refused PairCount) (cond (not (addressesSound (length b) l k)) (Refused Address) (Done k)))
+answer-shape : (g : Layout) (b l : List ℕ) (k : ℕ) → performAnswer g b l k
+    ≡ cond (not (wordCountSound g b)) (Refused WordCount) (cond (ltb (length l) (2 * k)) (Refused PairCount) (cond (not (addressesSound (length b) l k)) (Refused Address) (Done k)))
 unfolding performAnswer performFaults wordCountFault answered
-answer-shape b l k = refl
+answer-shape g b l k = refl
 
-module _ {b l : List ℕ} {k : ℕ} where
-  refused : {f : Fault} → Refused f ≡ performAnswer house b l k → PerformResult b l k (Refused f) b
+module _ {g : Layout} {b l : List ℕ} {k : ℕ} where
+  refused : {f : Fault} → Refused f ≡ performAnswer g b l k → PerformResult g b l k (Refused f) b
   unfolding performBoard unlessRefused
   refused e = record { answer = e; board = rw (← e) }
 
-  pub miscounted : {w : Bool} → w ≡ wordCountSound house b → w ≡ false → PerformResult b l k (Refused WordCount) b
-  miscounted e z = refused (sym (answer-shape b l k ∙ rw (← e, z)))
+  pub miscounted : {w : Bool} → w ≡ wordCountSound g b → w ≡ false → PerformResult g b l k (Refused WordCount) b
+  miscounted e z = refused (sym (answer-shape g b l k ∙ rw (← e, z)))
 
-  module _ {w : Bool} (ew : w ≡ wordCountSound house b) (zw : w ≡ true) where
-    pub short : length l / 2 < k → PerformResult b l k (Refused PairCount) b
-    short h = refused (sym (answer-shape b l k ∙ rw (← ew, zw, lt-ltb (length l) (2 * k) (omega arith))))
+  module _ {w : Bool} (ew : w ≡ wordCountSound g b) (zw : w ≡ true) where
+    pub short : length l / 2 < k → PerformResult g b l k (Refused PairCount) b
+    short h = refused (sym (answer-shape g b l k ∙ rw (← ew, zw, lt-ltb (length l) (2 * k) (omega arith))))
 
     module _ {t : Bool} (room : k ≤ length l / 2) (et : t ≡ addressesSound (length b) l k) where
-      pub stray : t ≡ false → PerformResult b l k (Refused Address) b
-      stray z = refused (sym (answer-shape b l k ∙ rw (← ew, zw, le-ltb (length l) (2 * k) (omega arith), ← et, z)))
+      pub stray : t ≡ false → PerformResult g b l k (Refused Address) b
+      stray z = refused (sym (answer-shape g b l k ∙ rw (← ew, zw, le-ltb (length l) (2 * k) (omega arith), ← et, z)))
 
-      pub done : t ≡ true → {b′ : List ℕ} → b′ ≡ storedBoard b l k → PerformResult b l k (Done k) b′
+      pub done : t ≡ true → {b′ : List ℕ} → b′ ≡ storedBoard b l k → PerformResult g b l k (Done k) b′
       unfolding performBoard unlessRefused
       done z e =
-          let answer : performAnswer house b l k ≡ Done k = answer-shape b l k ∙ rw (← ew, zw, le-ltb (length l) (2 * k) (omega arith), ← et, z) in
+          let answer : performAnswer g b l k ≡ Done k = answer-shape g b l k ∙ rw (← ew, zw, le-ltb (length l) (2 * k) (omega arith), ← et, z) in
           record { answer = sym answer; board = e ∙ rw answer }

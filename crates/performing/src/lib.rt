@@ -3,27 +3,33 @@ use boards::block_count;
 use boards::last;
 use boards::trailer_word;
 use boards::word_count_sound;
+use kinds::bits;
+use kinds::leaf_count;
+use kinds::start_in;
 use model::Answer;
 use model::Fault;
+use model::Kind;
 use plans::barrier;
 use plans::block;
 use plans::pair;
 use words::put;
+use words::width;
 use words::word;
 ghost use mathlib.Core.Path.{_≡_};
 ghost use mathlib.Core.Bool.{_||_};
+ghost use mathlib.Core.List.{[], _∷_};
 ghost use Prim.Native.Nat.{_+_, _*_, _≤_, _<_};
-ghost use lib.ListN.{length, take};
+ghost use lib.ListN.{length, replicate, take};
 ghost use lib.Dec.{ltb};
 ghost use Rattle.model.specs.Lists.{all};
-ghost use Rattle.model.specs.Layout.{house};
+ghost use Rattle.model.specs.Layout.{house, layoutOf};
 ghost use Rattle.model.specs.Store.{isBarrier, performed, stores, paired, laid};
 ghost use Rattle.model.specs.Plan.{pairs};
 ghost use Rattle.model.specs.Fresh.{stored};
-ghost use Rattle.model.specs.Format.{formatPages, trailerStores, formatPlan};
+ghost use Rattle.model.specs.Format.{inodePage, trailerStores, formatPlan};
 ghost use Rattle.model.specs.Calls.{format};
 ghost use Rattle.plans.specs.Laying.{PlanResult};
-ghost use Rattle.performing.specs.Results.{PerformResult};
+ghost use Rattle.performing.specs.Results.{PerformResult, Words, Place};
 
 // Whether each of the first k addresses of a plan is on a board of so many words or a barrier's.
 fn addresses_sound(words: u64, plan: &[u64], k: u64) -> bool
@@ -55,11 +61,11 @@ fn store_all(board: &mut [u64], plan: &[u64], k: u64)
     }
 }
 
-// Perform: the first `pairs` pairs of a plan on a board. Answers their number, or refused 1, 9, 10.
-pub fn perform(board: &mut [u64], plan: &[u64], pairs: u64) -> Answer
-    ensures { λ r. ⌜ PerformResult (now (board .entry)) (now (plan .entry)) pairs r (now (board .exit)) ⌝ }
+// Perform on a board of some kind.
+fn perform_kind(kind: Kind, board: &mut [u64], plan: &[u64], pairs: u64) -> Answer
+    ensures { λ r. ⌜ PerformResult (layoutOf kind) (now (board .entry)) (now (plan .entry)) pairs r (now (board .exit)) ⌝ }
 {
-    if !word_count_sound(board) {
+    if !word_count_sound(kind, board) {
         return Answer::Refused(Fault::WordCount);
     }
     if plan.len() as u64 / 2 < pairs {
@@ -73,54 +79,113 @@ pub fn perform(board: &mut [u64], plan: &[u64], pairs: u64) -> Answer
     Answer::Done(pairs)
 }
 
-// Lays blocks 1 to 9 of a new board: the inode pointer block, then empty leaves.
-fn lay_inodes(plan: &mut [u64])
-    ensures { λ _. ⌜ now (plan .exit) ≡ laid (now (plan .entry)) 2 (stored 8 (λ c. c) (formatPages house) 1) ⌝ }
+// Perform: the first `pairs` pairs of a plan on a board. Answers their number, or refused 1, 9, 10.
+pub fn perform(board: &mut [u64], plan: &[u64], pairs: u64) -> Answer
+    ensures { λ r. ⌜ PerformResult house (now (board .entry)) (now (plan .entry)) pairs r (now (board .exit)) ⌝ }
 {
-    block(plan, 2, 1, [16, 24, 32, 40, 48, 56, 64, 72]);
-    let mut l = 0;
-    while l < 8 {
-        block(plan, 10 + 8 * l, 2 + l, [0, 0, 0, 0, 0, 0, 0, 0]);
-        l += 1;
-    }
+    perform_kind(Kind::House, board, plan, pairs)
 }
 
-// Lays words 1 to 7 of a new board's trailer.
-fn lay_trailer(board: &[u64], plan: &mut [u64])
-    ensures { λ _. ⌜ now (plan .exit) ≡ laid (now (plan .entry)) 74 (trailerStores house (now (board .entry))) ⌝ }
+// The words of a block.
+fn words_of(kind: Kind) -> u64
+    ensures { λ r. ⌜ Words kind r ⌝ }
 {
-    let blocks = block_count(board);
-    let at = 8 * last(board);
+    width(bits(kind))
+}
+
+// How many pairs of format's plan come before the trailer's words.
+fn trailer_place(kind: Kind) -> u64
+    ensures { λ r. ⌜ Place kind r ⌝ }
+{
+    2 + words_of(kind) * (1 + leaf_count(kind))
+}
+
+// Word j of the inode pointer block of a new board: its leaves lie from block 2 on.
+fn inode_word(kind: Kind, j: u64) -> u64
+    ensures { λ r. ⌜ r ≡ inodePage (layoutOf kind) j ⌝ }
+{
+    if j < leaf_count(kind) {
+        return start_in(kind, 2 + j);
+    }
+    0
+}
+
+// Lays block 1 of a new board, the inode pointers.
+fn lay_pointers(kind: Kind, plan: &mut [u64])
+    ensures { λ _. ⌜ now (plan .exit) ≡ laid (now (plan .entry)) 2 (stored (layoutOf kind .words) (λ c. c) (inodePage (layoutOf kind) ∷ []) 1) ⌝ }
+{
+    let w = words_of(kind);
     let mut j = 0;
-    while j < 7 {
-        pair(plan, 74 + j, at + j + 1, trailer_word(blocks, j + 1));
+    while j < w {
+        pair(plan, 2 + j, w + j, inode_word(kind, j));
         j += 1;
     }
 }
 
-// Lays the 83 pairs that make 32 empty files.
-fn lay_format(board: &[u64], plan: &mut [u64])
-    ensures { λ _. ⌜ now (plan .exit) ≡ laid (now (plan .entry)) 0 (pairs (formatPlan house (now (board .entry)))) ⌝ }
+// Lays the empty leaves, from block 2 on. A page of no words is laid as zeros.
+fn lay_leaves(kind: Kind, plan: &mut [u64])
+    ensures { λ _. ⌜ now (plan .exit) ≡ laid (now (plan .entry)) (2 + layoutOf kind .words) (stored (layoutOf kind .words) (λ c. c) (replicate (layoutOf kind .leaves) (λ j. 0)) 2) ⌝ }
 {
-    let at = 8 * last(board);
+    let b = bits(kind);
+    let w = words_of(kind);
+    let n = leaf_count(kind);
+    let none = [0u64; 0];
+    let mut l = 0;
+    while l < n {
+        block(b, plan, 2 + w + w * l, 2 + l, &none);
+        l += 1;
+    }
+}
+
+// Lays the words of a new board's trailer from word 1 on.
+fn lay_trailer(kind: Kind, board: &[u64], plan: &mut [u64])
+    ensures { λ _. ⌜ now (plan .exit) ≡ laid (now (plan .entry)) (2 + layoutOf kind .words * (1 + layoutOf kind .leaves)) (trailerStores (layoutOf kind) (now (board .entry))) ⌝ }
+{
+    let blocks = block_count(kind, board);
+    let at = start_in(kind, last(kind, board));
+    let p = trailer_place(kind);
+    let n = words_of(kind) - 1;
+    let mut j = 0;
+    while j < n {
+        pair(plan, p + j, at + j + 1, trailer_word(kind, blocks, j + 1));
+        j += 1;
+    }
+}
+
+// Lays the pairs that make 32 empty files.
+fn lay_format(kind: Kind, board: &[u64], plan: &mut [u64])
+    ensures { λ _. ⌜ now (plan .exit) ≡ laid (now (plan .entry)) 0 (pairs (formatPlan (layoutOf kind) (now (board .entry)))) ⌝ }
+{
+    let at = start_in(kind, last(kind, board));
+    let w = words_of(kind);
+    let p = trailer_place(kind) + w;
     pair(plan, 0, at, 0);
     barrier(plan, 1);
-    lay_inodes(plan);
-    lay_trailer(board, plan);
-    barrier(plan, 81);
-    pair(plan, 82, at, 9);
+    lay_pointers(kind, plan);
+    lay_leaves(kind, plan);
+    lay_trailer(kind, board, plan);
+    barrier(plan, p - 1);
+    pair(plan, p, at, w + 1);
+}
+
+// Format on a board of some kind.
+fn format_kind(kind: Kind, board: &[u64], plan: &mut [u64]) -> Answer
+    ensures { λ r. ⌜ PlanResult (format (layoutOf kind) (now (board .entry)) (now (plan .entry))) r (now (plan .exit)) ⌝ }
+{
+    if !word_count_sound(kind, board) {
+        return Answer::Refused(Fault::WordCount);
+    }
+    let n = trailer_place(kind) + words_of(kind) + 1;
+    if (plan.len() as u64) < 2 * n {
+        return Answer::Refused(Fault::PlanLength);
+    }
+    lay_format(kind, board, plan);
+    Answer::Done(n)
 }
 
 // Format: plans 32 empty files on a board. Answers the pair count, or refused 1, 8.
 pub fn format(board: &[u64], plan: &mut [u64]) -> Answer
     ensures { λ r. ⌜ PlanResult (format house (now (board .entry)) (now (plan .entry))) r (now (plan .exit)) ⌝ }
 {
-    if !word_count_sound(board) {
-        return Answer::Refused(Fault::WordCount);
-    }
-    if plan.len() < 166 {
-        return Answer::Refused(Fault::PlanLength);
-    }
-    lay_format(board, plan);
-    Answer::Done(83)
+    format_kind(Kind::House, board, plan)
 }

@@ -31,7 +31,7 @@ use Rattle.model.proofs.Supplied.{lowest-rule}
 use Rattle.model.proofs.Rules.{call-either, power-cut-rule, accuracy-rule, plan-rule}
 use Rattle.model.proofs.FormatCut.{format-rule}
 use Rattle.plans.specs.Laying.{PlanResult}
-use Rattle.plans.proofs.Pairs.{length-paired}
+use Rattle.performing.proofs.Pairs.{length-paired}
 use Rattle.performing.specs.Results.{PerformResult}
 use Rattle.promises.specs.Promises.{cutAfter, Kept, WritePromise, SetLengthPromise, FormatPromise}
 use Rattle.promises.proofs.Parts.{part-stands, part-named, part-all}
@@ -57,7 +57,7 @@ module _ (b slice : List ℕ) (k : ℕ) (counts : T (wordCountSound house b)) (t
       let room : 2 * k ≤ length slice = omega (arith, length-paired slice) in
       rw (is-true (wordCountSound house b) counts, le-ltb (length slice) (2 * k) room, is-true (all (λ s. ltb (s .at) (length b) || isBarrier s) (take k (paired slice))) (pairs-all (λ s. ltb (s .at) (length b)) (take k (paired slice)) on))
 
-  pub performed-whole : (q : Answer) (b′ : List ℕ) → PerformResult b slice k q b′ → (q ≡ Done k) × (b′ ≡ performed b (stores (take k (paired slice))))
+  pub performed-whole : (q : Answer) (b′ : List ℕ) → PerformResult house b slice k q b′ → (q ≡ Done k) × (b′ ≡ performed b (stores (take k (paired slice))))
   unfolding performBoard unlessRefused
   performed-whole q b′ w = (w .answer ∙ performs, w .board ∙ rw performs)
 
@@ -88,7 +88,7 @@ module _ (b : List ℕ) (t : T (accepted house b)) (c : Change) (slice : List �
   unfolding planOf
   first-pairs k l = sym (take-take k (counted (p .answer)) (paired (p .slice)) l)
 
-  performed-part : (k : ℕ) → k ≤ counted (p .answer) → (q : Answer) (b′ : List ℕ) → PerformResult b (p .slice) k q b′
+  performed-part : (k : ℕ) → k ≤ counted (p .answer) → (q : Answer) (b′ : List ℕ) → PerformResult house b (p .slice) k q b′
       → (q ≡ Done k) × CutSafe house b b′ (fileOf c) (after c (p .answer) (contents house b (fileOf c))) (planOf p) (lastArrived (planOf p) (cutAfter k (planOf p)))
   performed-part k l q b′ w =
       let on = part-all (λ s. ltb (s .at) (length b)) k (planOf p) stores-on in
@@ -123,7 +123,7 @@ module _ (b : List ℕ) (ok : T (wordCountSound house b)) (slice : List ℕ) whe
   f = format house b slice
 
   -- where it is not refused, its plan performed whole leaves 32 empty files
-  format-whole : (n : ℕ) → f .answer ≡ Done n → (q : Answer) (b′ : List ℕ) → PerformResult b (f .slice) n q b′ → (q ≡ Done n) × Empty house b′
+  format-whole : (n : ℕ) → f .answer ≡ Done n → (q : Answer) (b′ : List ℕ) → PerformResult house b (f .slice) n q b′ → (q ≡ Done n) × Empty house b′
   unfolding format planOf counted
   format-whole n e q b′ w = elim (planned-either (wordCountFault house b) (pairs (formatPlan house b)) slice) [
     | inl d ↦

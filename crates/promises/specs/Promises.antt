@@ -45,10 +45,10 @@ pub record Kept (b : List ℕ) (f : ℕ) (wanted : List ℕ) (r : Answer) (slice
   -- cut anywhere, it obeys the power-cut rule
   pub cut : (x : Cut) → let ss : List Store = planLeft r slice′ in Names ss x → CutSafe house b (standing ss x b) f wanted ss (lastArrived ss x)
   -- performed by `perform` up to any pair, it leaves the board of such a cut
-  pub part : (k : ℕ) → k ≤ counted r → (q : Answer) (b′ : List ℕ) → PerformResult b slice′ k q b′
+  pub part : (k : ℕ) → k ≤ counted r → (q : Answer) (b′ : List ℕ) → PerformResult house b slice′ k q b′
       → let ss : List Store = planLeft r slice′ in (q ≡ Done k) × CutSafe house b b′ f wanted ss (lastArrived ss (cutAfter k ss))
   -- performed whole by `perform`, which does not refuse it, the file reads as after and no other file is changed
-  pub whole : (q : Answer) (b′ : List ℕ) → PerformResult b slice′ (counted r) q b′ → (q ≡ Done (counted r)) × Altered house b b′ f wanted
+  pub whole : (q : Answer) (b′ : List ℕ) → PerformResult house b slice′ (counted r) q b′ → (q ≡ Done (counted r)) × Altered house b b′ f wanted
 
 -- `write`
 abbrev pub WritePromise : Type 0
@@ -65,7 +65,7 @@ SetLengthPromise = (b : List ℕ) → T (accepted house b) → (f n : ℕ) (slic
 pub record Formats (b : List ℕ) (r : Answer) (slice′ : List ℕ) : Type 0 where
   pub cut : (x : Cut) → let ss : List Store = planLeft r slice′ in let b′ : List ℕ = standing ss x b in
       Names ss x → (b′ ≡ b) ⊎ (((trailer house b′ 0 ≡ 0) × (checkAnswer house b′ ≡ Refused Trailer)) ⊎ Empty house b′)
-  pub whole : (n : ℕ) → r ≡ Done n → (q : Answer) (b′ : List ℕ) → PerformResult b slice′ n q b′ → (q ≡ Done n) × Empty house b′
+  pub whole : (n : ℕ) → r ≡ Done n → (q : Answer) (b′ : List ℕ) → PerformResult house b slice′ n q b′ → (q ≡ Done n) × Empty house b′
 
 abbrev pub FormatPromise : Type 0
 FormatPromise = (b : List ℕ) → T (wordCountSound house b) → (slice : List ℕ) (r : Answer) (slice′ : List ℕ) → PlanResult (format house b slice) r slice′ → Formats b r slice′

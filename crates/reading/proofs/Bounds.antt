@@ -49,7 +49,7 @@ module _ (b : List ℕ) (f : ℕ) where
   unfolding sizeAnswer checkAnswer fileFaults files answered counted
   size-counted (Refused x) e = rw (first-refused (boardFaults house b) ((FileNumber, leb 32 f) ∷ []) 0 (size house b f) e refl) (omega arith)
   size-counted (Done v) e = rw (first-done (boardFaults house b) ((FileNumber, leb 32 f) ∷ []) 0 (size house b f) e refl) (elim (split f 31) [
-    | inl l ↦ rw (lt-leb 32 f (omega arith)) (size-most (sound b v (sym e) .trees) l)
+    | inl l ↦ rw (lt-leb 32 f (omega arith)) (size-most (sound house b v (sym e) .trees) l)
     | inr l ↦ rw (le-leb 32 f l) (omega arith)
   ])
 
@@ -77,7 +77,7 @@ module _ (b : List ℕ) {r : Answer} where
   pub size-small : (f : ℕ) → r ≡ sizeAnswer house b f → counted r < 2 ^ 63
   size-small f e = rw e (omega (arith, size-counted b f (checkAnswer house b) refl))
 
-  pub read-small : {f o : ℕ} {out out′ : List ℕ} → length out < 2 ^ 63 → ReadResult b f o out r out′ → counted r < 2 ^ 63
+  pub read-small : {f o : ℕ} {out out′ : List ℕ} → length out < 2 ^ 63 → ReadResult house b f o out r out′ → counted r < 2 ^ 63
   unfolding readAnswer readCount
   read-small {f} {o} {out} h c =
       let n : ℕ = readCount house b f o out in

@@ -2,43 +2,62 @@
 // inputs; a refusal leaves the caller's buffer as it was.
 use model::Answer;
 use model::Fault;
+use model::Kind;
 use model::WalkEnd;
 use surveying::survey;
 use surveying::unmarked;
 use trees::root_walk;
 ghost use mathlib.Core.Path.{_≡_};
-ghost use Rattle.model.specs.Layout.{house};
+ghost use Rattle.model.specs.Layout.{house, layoutOf};
 ghost use Rattle.model.specs.Board.{walkTo};
 ghost use Rattle.model.specs.Answers.{answered};
 ghost use Rattle.model.specs.Calls.{fileFaults, checkAnswer, freeCountAnswer, sizeAnswer};
+ghost use Rattle.kinds.specs.Figures.{Bits};
 ghost use Rattle.reading.specs.Results.{ReadResult};
+
+// Check of a board of some kind.
+fn check_kind(kind: Kind, bits: u64, board: &[u64]) -> Answer
+    requires { ⌜ Bits kind bits ⌝ }
+    ensures { λ r. ⌜ r ≡ checkAnswer (layoutOf kind) (now (board .entry)) ⌝ }
+{
+    let mut marks = [0u64; 1024];
+    survey(kind, bits, board, &mut marks)
+}
 
 // Check: 0, or refused 1, 2, 3.
 pub fn check(board: &[u64]) -> Answer
     ensures { λ r. ⌜ r ≡ checkAnswer house (now (board .entry)) ⌝ }
 {
-    let mut marks = [0u64; 1024];
-    survey(board, &mut marks)
+    check_kind(Kind::House, 3, board)
+}
+
+// Free count of a board of some kind.
+fn free_count_kind(kind: Kind, bits: u64, board: &[u64]) -> Answer
+    requires { ⌜ Bits kind bits ⌝ }
+    ensures { λ r. ⌜ r ≡ freeCountAnswer (layoutOf kind) (now (board .entry)) ⌝ }
+{
+    let mut live = [0u64; 1024];
+    let found = survey(kind, bits, board, &mut live);
+    let Answer::Done(_) = found else {
+        return found;
+    };
+    let top = boards::last(kind, board);
+    Answer::Done(unmarked(&live, top))
 }
 
 // Free count: the number of free blocks, or refused 1, 2, 3.
 pub fn free_count(board: &[u64]) -> Answer
     ensures { λ r. ⌜ r ≡ freeCountAnswer house (now (board .entry)) ⌝ }
 {
-    let mut live = [0u64; 1024];
-    let found = survey(board, &mut live);
-    let Answer::Done(_) = found else {
-        return found;
-    };
-    let top = boards::last(board);
-    Answer::Done(unmarked(&live, top))
+    free_count_kind(Kind::House, 3, board)
 }
 
 // Whether the board is accepted and has such a file: 0, or refused 1, 2, 3, 4.
-pub fn check_file(board: &[u64], file: u64) -> Answer
-    ensures { λ r. ⌜ r ≡ answered (fileFaults house (now (board .entry)) file) 0 ⌝ }
+pub fn check_file(kind: Kind, bits: u64, board: &[u64], file: u64) -> Answer
+    requires { ⌜ Bits kind bits ⌝ }
+    ensures { λ r. ⌜ r ≡ answered (fileFaults (layoutOf kind) (now (board .entry)) file) 0 ⌝ }
 {
-    let found = check(board);
+    let found = check_kind(kind, bits, board);
     let Answer::Done(_) = found else {
         return found;
     };
@@ -48,36 +67,52 @@ pub fn check_file(board: &[u64], file: u64) -> Answer
     Answer::Done(0)
 }
 
+// Size of a file of a board of some kind.
+fn size_kind(kind: Kind, bits: u64, board: &[u64], file: u64) -> Answer
+    requires { ⌜ Bits kind bits ⌝ }
+    ensures { λ r. ⌜ r ≡ sizeAnswer (layoutOf kind) (now (board .entry)) file ⌝ }
+{
+    let found = check_file(kind, bits, board, file);
+    let Answer::Done(_) = found else {
+        return found;
+    };
+    Answer::Done(boards::size(kind, board, file))
+}
+
 // Size: a file's size, or refused 1, 2, 3, 4.
 pub fn size(board: &[u64], file: u64) -> Answer
     ensures { λ r. ⌜ r ≡ sizeAnswer house (now (board .entry)) file ⌝ }
 {
-    let found = check_file(board, file);
+    size_kind(Kind::House, 3, board, file)
+}
+
+// Read of a board of some kind.
+fn read_kind(kind: Kind, bits: u64, board: &[u64], file: u64, offset: u64, out: &mut [u8]) -> Answer
+    requires { ⌜ Bits kind bits ⌝ }
+    ensures { λ r. ⌜ ReadResult (layoutOf kind) (now (board .entry)) file offset (now (out .entry)) r (now (out .exit)) ⌝ }
+{
+    let found = check_file(kind, bits, board, file);
     let Answer::Done(_) = found else {
         return found;
     };
-    Answer::Done(boards::size(board, file))
+    let root = boards::root(kind, board, file);
+    let n = boards::size(kind, board, file);
+    let count = files::fill(bits, board, root, n, offset, out);
+    Answer::Done(count as u64)
 }
 
 // Read: fills `out` from byte `offset` on and answers the count, or refused 1, 2, 3, 4.
 pub fn read(board: &[u64], file: u64, offset: u64, out: &mut [u8]) -> Answer
-    ensures { λ r. ⌜ ReadResult (now (board .entry)) file offset (now (out .entry)) r (now (out .exit)) ⌝ }
+    ensures { λ r. ⌜ ReadResult house (now (board .entry)) file offset (now (out .entry)) r (now (out .exit)) ⌝ }
 {
-    let found = check_file(board, file);
-    let Answer::Done(_) = found else {
-        return found;
-    };
-    let root = boards::root(board, file);
-    let n = boards::size(board, file);
-    let count = files::fill(board, root, n, offset, out);
-    Answer::Done(count as u64)
+    read_kind(Kind::House, 3, board, file, offset, out)
 }
 
 // The walk to a byte of a file. It looks at no more of the board than its path, and refuses nothing.
 pub fn walk_to(board: &[u64], file: u64, byte: u64) -> WalkEnd
     ensures { λ r. ⌜ r ≡ walkTo house (now (board .entry)) file byte ⌝ }
 {
-    let root = boards::root(board, file);
-    let n = boards::size(board, file);
-    root_walk(board, root, n, byte)
+    let root = boards::root(Kind::House, board, file);
+    let n = boards::size(Kind::House, board, file);
+    root_walk(3, board, root, n, byte)
 }

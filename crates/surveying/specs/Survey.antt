@@ -8,20 +8,20 @@ use lib.Dec.{ltb, eqb}
 use Rattle.model.specs.declared.Answer.{Answer}
 use Rattle.model.specs.declared.Answer.the-variants.{Done}
 use Rattle.model.specs.Lists.{every}
-use Rattle.model.specs.Layout.{house}
+use Rattle.model.specs.Layout.{Layout, files}
 use Rattle.model.specs.Board.{blockCount, inodeBlock, liveBlocks, leafSound, fileSound}
 use Rattle.model.specs.Calls.{checkAnswer}
 use Rattle.trees.specs.Marks.{marked}
 
 -- the inode pointer block lies below the trailer, and every inode pointer, size and live pointer is as it must be
-abbrev pub pointersSound : List ℕ → Bool
-pointersSound b = ltb (inodeBlock house b) (blockCount house b - 1) && (every 8 (leafSound house b) && every 32 (fileSound house b))
+abbrev pub pointersSound : Layout → List ℕ → Bool
+pointersSound g b = ltb (inodeBlock g b) (blockCount g b - 1) && (every (g .leaves) (leafSound g b) && every (files g) (fileSound g b))
 
 -- a block that marks have free
 abbrev pub spare : List ℕ → ℕ → Bool
 spare m k = eqb (getD m k 0) 0
 
 -- what check answers, and where it is no refusal, the live blocks marked
-pub record Surveyed (b : List ℕ) (r : Answer) (m : List ℕ) : Type 0 where
-  pub answer : r ≡ checkAnswer house b
-  pub marks : (v : ℕ) → r ≡ Done v → m ≡ marked (replicate 1024 0) (liveBlocks house b)
+pub record Surveyed (g : Layout) (b : List ℕ) (r : Answer) (m : List ℕ) : Type 0 where
+  pub answer : r ≡ checkAnswer g b
+  pub marks : (v : ℕ) → r ≡ Done v → m ≡ marked (replicate 1024 0) (liveBlocks g b)

@@ -6,8 +6,14 @@ use boards::size;
 use boards::trailer;
 use boards::trailer_sound;
 use boards::word_count_sound;
+use kinds::block_in;
+use kinds::leaf_count;
+use kinds::low_in;
+use kinds::top_height;
+use kinds::top_size;
 use model::Answer;
 use model::Fault;
+use model::Kind;
 use trees::claim;
 use trees::crawl;
 use words::word;
@@ -16,34 +22,36 @@ ghost use mathlib.Core.List.{[], _∷_};
 ghost use Prim.Native.Nat.{_-_};
 ghost use lib.ListN.{length, replicate};
 ghost use Rattle.model.specs.Lists.{tabulate, joined, every, pickFrom};
-ghost use Rattle.model.specs.Layout.{house};
+ghost use Rattle.model.specs.Layout.{layoutOf, files};
 ghost use Rattle.model.specs.Board.{leaf, fileBlocks, liveBlocks, leafSound, fileSound};
 ghost use Rattle.trees.specs.Marks.{Marked};
+ghost use Rattle.kinds.specs.Figures.{Bits};
 ghost use Rattle.surveying.specs.Survey.{pointersSound, spare, Surveyed};
 
 // Marks leaf l; whether its pointer is as it must be and it was not marked before.
-pub fn leaf(board: &[u64], marks: &mut [u64], l: u64) -> bool
-    ensures { λ r. ⌜ Marked (leafSound house (now (board .entry)) l) (leaf house (now (board .entry)) l ∷ []) (now (marks .entry)) r (now (marks .exit)) ⌝ }
+pub fn leaf(kind: Kind, board: &[u64], marks: &mut [u64], l: u64) -> bool
+    ensures { λ r. ⌜ Marked (leafSound (layoutOf kind) (now (board .entry)) l) (leaf (layoutOf kind) (now (board .entry)) l ∷ []) (now (marks .entry)) r (now (marks .exit)) ⌝ }
 {
-    let p = inode_pointer(board, l);
-    if p % 8 != 0 {
+    let p = inode_pointer(kind, board, l);
+    if low_in(kind, p) != 0 {
         return false;
     }
-    let k = p / 8;
+    let k = block_in(kind, p);
     if k == 0 {
         return false;
     }
-    let top = last(board);
+    let top = last(kind, board);
     claim(marks, top, k)
 }
 
 // The same of all leaves.
-pub fn leaves(board: &[u64], marks: &mut [u64]) -> bool
-    ensures { λ r. ⌜ Marked (every 8 (leafSound house (now (board .entry)))) (tabulate 8 (leaf house (now (board .entry)))) (now (marks .entry)) r (now (marks .exit)) ⌝ }
+pub fn leaves(kind: Kind, board: &[u64], marks: &mut [u64]) -> bool
+    ensures { λ r. ⌜ Marked (every (layoutOf kind .leaves) (leafSound (layoutOf kind) (now (board .entry)))) (tabulate (layoutOf kind .leaves) (leaf (layoutOf kind) (now (board .entry)))) (now (marks .entry)) r (now (marks .exit)) ⌝ }
 {
+    let n = leaf_count(kind);
     let mut l = 0;
-    while l < 8 {
-        if !leaf(board, marks, l) {
+    while l < n {
+        if !leaf(kind, board, marks, l) {
             return false;
         }
         l += 1;
@@ -52,32 +60,34 @@ pub fn leaves(board: &[u64], marks: &mut [u64]) -> bool
 }
 
 // Marks the live blocks of file f; whether its size and its tree are as they must be and none of them was marked before.
-pub fn file(board: &[u64], marks: &mut [u64], f: u64) -> bool
-    ensures { λ r. ⌜ Marked (fileSound house (now (board .entry)) f) (fileBlocks house (now (board .entry)) f) (now (marks .entry)) r (now (marks .exit)) ⌝ }
+pub fn file(kind: Kind, bits: u64, board: &[u64], marks: &mut [u64], f: u64) -> bool
+    requires { ⌜ Bits kind bits ⌝ }
+    ensures { λ r. ⌜ Marked (fileSound (layoutOf kind) (now (board .entry)) f) (fileBlocks (layoutOf kind) (now (board .entry)) f) (now (marks .entry)) r (now (marks .exit)) ⌝ }
 {
-    let n = size(board, f);
-    if 32768 < n {
+    let n = size(kind, board, f);
+    if top_size(kind) < n {
         return false;
     }
     if n == 0 {
         return true;
     }
-    let p = root(board, f);
-    let h = p % 8;
-    if 3 < h {
+    let p = root(kind, board, f);
+    let h = low_in(kind, p);
+    if top_height(kind) < h {
         return false;
     }
-    let top = last(board);
-    crawl(board, marks, top, h, p / 8, n)
+    let top = last(kind, board);
+    crawl(bits, board, marks, top, h, block_in(kind, p), n)
 }
 
 // The same of all files.
-pub fn files(board: &[u64], marks: &mut [u64]) -> bool
-    ensures { λ r. ⌜ Marked (every 32 (fileSound house (now (board .entry)))) (joined 32 (fileBlocks house (now (board .entry)))) (now (marks .entry)) r (now (marks .exit)) ⌝ }
+pub fn files(kind: Kind, bits: u64, board: &[u64], marks: &mut [u64]) -> bool
+    requires { ⌜ Bits kind bits ⌝ }
+    ensures { λ r. ⌜ Marked (every (files (layoutOf kind)) (fileSound (layoutOf kind) (now (board .entry)))) (joined (files (layoutOf kind)) (fileBlocks (layoutOf kind) (now (board .entry)))) (now (marks .entry)) r (now (marks .exit)) ⌝ }
 {
     let mut f = 0;
     while f < 32 {
-        if !file(board, marks, f) {
+        if !file(kind, bits, board, marks, f) {
             return false;
         }
         f += 1;
@@ -86,32 +96,33 @@ pub fn files(board: &[u64], marks: &mut [u64]) -> bool
 }
 
 // The same of the inode pointer block, the leaves and the files.
-pub fn live(board: &[u64], marks: &mut [u64]) -> bool
-    ensures { λ r. ⌜ Marked (pointersSound (now (board .entry))) (liveBlocks house (now (board .entry))) (now (marks .entry)) r (now (marks .exit)) ⌝ }
+pub fn live(kind: Kind, bits: u64, board: &[u64], marks: &mut [u64]) -> bool
+    requires { ⌜ Bits kind bits ⌝ }
+    ensures { λ r. ⌜ Marked (pointersSound (layoutOf kind) (now (board .entry))) (liveBlocks (layoutOf kind) (now (board .entry))) (now (marks .entry)) r (now (marks .exit)) ⌝ }
 {
-    let top = last(board);
-    let k = trailer(board, 0) / 8;
+    let top = last(kind, board);
+    let k = block_in(kind, trailer(kind, board, 0));
     if !claim(marks, top, k) {
         return false;
     }
-    if !leaves(board, marks) {
+    if !leaves(kind, board, marks) {
         return false;
     }
-    files(board, marks)
+    files(kind, bits, board, marks)
 }
 
 // What check answers; where that is no refusal, the live blocks are marked.
-pub fn survey(board: &[u64], marks: &mut [u64]) -> Answer
-    requires { ⌜ now marks ≡ replicate 1024 0 ⌝ }
-    ensures { λ r. ⌜ Surveyed (now (board .entry)) r (now (marks .exit)) ⌝ }
+pub fn survey(kind: Kind, bits: u64, board: &[u64], marks: &mut [u64]) -> Answer
+    requires { ⌜ (now marks ≡ replicate 1024 0) × Bits kind bits ⌝ }
+    ensures { λ r. ⌜ Surveyed (layoutOf kind) (now (board .entry)) r (now (marks .exit)) ⌝ }
 {
-    if !word_count_sound(board) {
+    if !word_count_sound(kind, board) {
         return Answer::Refused(Fault::WordCount);
     }
-    if !trailer_sound(board) {
+    if !trailer_sound(kind, board) {
         return Answer::Refused(Fault::Trailer);
     }
-    if !live(board, marks) {
+    if !live(kind, bits, board, marks) {
         return Answer::Refused(Fault::Damaged);
     }
     Answer::Done(0)

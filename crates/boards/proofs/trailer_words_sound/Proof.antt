@@ -1,5 +1,5 @@
 use borrow.Author.Needs.{needs}
-use mathlib.Core.Path.{_≡_, refl, sym, _∙_}
+use mathlib.Core.Path.{_≡_, refl, sym, ap, _∙_}
 use mathlib.Core.Bool.{Bool, true}
 use mathlib.Core.List.{List}
 use Prim.Native.Nat.{ℕ, suc, _+_, _-_, _≤_}
@@ -8,46 +8,53 @@ use native.Mathlib.Omega.{arith}
 use lib.Dec.{eqb}
 use borrow.Author.Tests.{eq-eqb, ne-eqb}
 use Rattle.model.specs.Lists.{every}
-use Rattle.model.specs.Layout.{house}
+use Rattle.model.specs.Layout.{Layout, layoutOf}
 use Rattle.model.specs.Board.{trailerWord, blockCount, trailer}
 use Rattle.model.proofs.Cases.{every-more, every-fails}
 use Rattle.boards.proofs.trailer_words_sound.Statement.{statement}
 use Rattle.boards.proofs.trailer_words_sound.Tie as tie
 
 -- word j + 1 is as it must be
-abbrev right : List ℕ → ℕ → Bool
-right b j = eqb (trailer house b (suc j)) (trailerWord house (blockCount house b) (suc j))
+abbrev right : Layout → List ℕ → ℕ → Bool
+right g b j = eqb (trailer g b (suc j)) (trailerWord g (blockCount g b) (suc j))
 
 -- what the code's three calls say of it
-told : (b : List ℕ) (j : ℕ) {x n y : ℕ} → x ≡ trailer house b (j + 1) → n ≡ blockCount house b → y ≡ trailerWord house n (j + 1) → right b j ≡ eqb x y
-told b j ex en ey = rw (ex, ey, en, add-one j)
+told : (g : Layout) (b : List ℕ) (j : ℕ) {x n y : ℕ} → x ≡ trailer g b (j + 1) → n ≡ blockCount g b → y ≡ trailerWord g n (j + 1) → right g b j ≡ eqb x y
+told g b j ex en ey = rw (ex, ey, en, add-one j)
 
 abbrev Inv-loop : tie.InvT-loop
-Inv-loop board j₀ j = (j ≤ 7) × (every j (right board) ≡ true)
+Inv-loop kind board n j₀ j = (j ≤ n) × (every j (right (layoutOf kind) board) ≡ true)
 
 abbrev μ-loop : tie.MeasureT-loop
-μ-loop board j₀ j = 7 - j
+μ-loop kind board n j₀ j = n - j
+
+-- so many words the trailer has
+all : (c : tie.After-width Inv-loop μ-loop) → let a = c .before .before .before .args in let f = right (layoutOf (a .kind)) (a .board .now) in
+    every (layoutOf (a .kind) .words - 1) f ≡ every (c .width .result - 1) f
+all c = let a = c .before .before .before .args in
+    ap (λ (m : ℕ). every (m - 1) (right (layoutOf (a .kind)) (a .board .now))) (c .before .bits .ensures .is ∙ sym (c .width .ensures .is))
 
 loop-holds : tie.Need-loop-holds Inv-loop μ-loop
 unfolding every
 loop-holds c = (omega arith, refl)
 
 returns : tie.Need-returns Inv-loop μ-loop
-returns c = let l = c .before .before .before .before .before in let b = l .before .before .args .board .now in
-    sym (every-fails 7 (l .loop .j) (right b) (c .before .before .before .before .loop-test .taken)
-    (told b (l .loop .j) (c .before .before .before .trailer .ensures) (c .before .before .block-count .ensures) (c .before .trailer-word .ensures) ∙ ne-eqb _ _ (c .if1 .taken)))
+returns c = let l = c .before .before .before .before .before in let a = l .before .before .before .before .args in let g = layoutOf (a .kind) in
+    sym (all (l .before) ∙ every-fails (l .before .width .result - 1) (l .loop .j) (right g (a .board .now)) (c .before .before .before .before .loop-test .taken)
+    (told g (a .board .now) (l .loop .j) (c .before .before .before .trailer .ensures) (c .before .before .block-count .ensures) (c .before .trailer-word .ensures) ∙ ne-eqb _ _ (c .if1 .taken)))
 
 loop-again : tie.Need-loop-again Inv-loop μ-loop
-loop-again c = let l = c .before .before .before .before .before in let b = l .before .before .args .board .now in (
+loop-again c = let l = c .before .before .before .before .before in let a = l .before .before .before .before .args in let g = layoutOf (a .kind) in (
   omega arith,
-  every-more (l .loop .j) (right b) (l .loop .inv .1)
-      (told b (l .loop .j) (c .before .before .before .trailer .ensures) (c .before .before .block-count .ensures) (c .before .trailer-word .ensures) ∙ eq-eqb _ _ (c .if1 .left)),
+  every-more (l .loop .j) (right g (a .board .now)) (l .loop .inv .1)
+      (told g (a .board .now) (l .loop .j) (c .before .before .before .trailer .ensures) (c .before .before .block-count .ensures) (c .before .trailer-word .ensures) ∙ eq-eqb _ _ (c .if1 .left)),
 )
 
 returns-2 : tie.Need-returns-2 Inv-loop μ-loop
-returns-2 c = let e : c .before .loop .j ≡ 7 = omega arith in sym (rw e at (c .before .loop .inv .1))
+returns-2 c = let l = c .before in let e : l .loop .j ≡ l .before .width .result - 1 = omega arith in sym (all (l .before) ∙ rw e at (l .loop .inv .1))
 
 pub trailer-words-sound-spec : {M : Type 1} → statement M
 trailer-words-sound-spec =
-    tie.close (tie.spec Inv-loop μ-loop loop-holds (λ c. search needs) (λ c κs. search needs) (λ c κs. search needs) (λ c. search needs)
+    tie.close (tie.spec Inv-loop μ-loop (λ c κs. search needs) (λ c κs. search needs) (λ c. search needs) loop-holds (λ c. search needs) (λ c κs. search needs)
+    (λ c κs. search needs) (λ c. search needs)
     (λ c κs. search needs) returns (λ c. search needs) (λ c. search needs) loop-again returns-2)

@@ -1,6 +1,6 @@
 use borrow.Author.Needs.{needs}
 use mathlib.Core.Path.{_≡_, refl}
-use Prim.Native.Nat.{_+_, _-_, _≤_}
+use Prim.Native.Nat.{_+_, _-_, _^_, _≤_}
 use native.Mathlib.Omega.{arith}
 use lib.ListN.{length}
 use Rattle.model.specs.declared.WalkEnd.the-variants.{Block}
@@ -12,17 +12,17 @@ use Rattle.files.proofs.copy_bytes.Statement.{statement}
 use Rattle.files.proofs.copy_bytes.Tie as tie
 
 abbrev Inv-loop : tie.InvT-loop
-Inv-loop board k from n out₀ j₀ out j = (j ≤ n) × (length out ≡ length out₀) × Filled (λ j. shown 8 board (Block k) (from + j)) j out₀ out
+Inv-loop bits board k from n out₀ j₀ out j = (j ≤ n) × (length out ≡ length out₀) × Filled (λ j. shown (2 ^ bits) board (Block k) (from + j)) j out₀ out
 
 abbrev μ-loop : tie.MeasureT-loop
-μ-loop board k from n out₀ j₀ out j = n - j
+μ-loop bits board k from n out₀ j₀ out j = n - j
 
 loop-holds : tie.Need-loop-holds Inv-loop μ-loop
 loop-holds c = (omega arith, refl, Filling.none)
 
 loop-again : tie.Need-loop-again Inv-loop μ-loop
 loop-again c = let w = c .before in let l = w .before .before in let a = l .before .before .before .args in
-    let next = Filling.step (l .loop .inv .2) (omega arith) (one-byte (a .board .now) (a .k) (a .from) (l .loop .j) (w .cell .ensures) (c .byte .ensures)) in
+    let next = Filling.step (l .loop .inv .2) (omega arith) (one-byte (2 ^ a .bits) (a .board .now) (a .k) (a .from) (l .loop .j) (w .cell .ensures) (c .byte .ensures)) in
     (omega arith, Filling.same-length next (omega arith), next)
 
 returns : tie.Need-returns Inv-loop μ-loop

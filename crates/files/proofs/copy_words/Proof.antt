@@ -1,6 +1,6 @@
 use borrow.Author.Needs.{needs}
 use mathlib.Core.Path.{_≡_, refl}
-use Prim.Native.Nat.{_+_, _-_, _*_, _≤_}
+use Prim.Native.Nat.{_+_, _-_, _*_, _^_, _≤_}
 use native.Mathlib.Omega.{arith}
 use lib.ListN.{length, length-drop}
 use borrow.Rule.Slice.PartAt.{part-to-end}
@@ -13,10 +13,10 @@ use Rattle.files.proofs.copy_words.Statement.{statement}
 use Rattle.files.proofs.copy_words.Tie as tie
 
 abbrev Inv-loop : tie.InvT-loop
-Inv-loop board k from n out₀ w₀ out w = (w ≤ n) × (length out ≡ length out₀) × Filled (λ j. shown 8 board (Block k) (8 * from + j)) (8 * w) out₀ out
+Inv-loop bits board k from n out₀ w₀ out w = (w ≤ n) × (length out ≡ length out₀) × Filled (λ j. shown (2 ^ bits) board (Block k) (8 * from + j)) (8 * w) out₀ out
 
 abbrev μ-loop : tie.MeasureT-loop
-μ-loop board k from n out₀ w₀ out w = n - w
+μ-loop bits board k from n out₀ w₀ out w = n - w
 
 loop-holds : tie.Need-loop-holds Inv-loop μ-loop
 loop-holds c = (omega arith, refl, Filling.none)
@@ -26,7 +26,7 @@ spread-requires c κs = let l = c .before .before .before in rw (part-to-end (l 
 
 loop-again : tie.Need-loop-again Inv-loop μ-loop
 loop-again c = let s = c .before .before in let x = s .before .before in let l = x .before .before in let a = l .before .before .before .args in
-    let more = Filling.lent (l .loop .inv .2) (omega arith) (whole-word (a .board .now) (a .k) (a .from) (l .loop .w) (x .cell .ensures)) (s .spread .ensures) in
+    let more = Filling.lent (l .loop .inv .2) (omega arith) (whole-word (2 ^ a .bits) (a .board .now) (a .k) (a .from) (l .loop .w) (x .cell .ensures)) (s .spread .ensures) in
     let e : 8 * l .loop .w + 8 ≡ 8 * (l .loop .w + 1) = omega arith in
     let next = rw e at more in
     (omega arith, Filling.same-length next (omega arith), next)

@@ -1,8 +1,8 @@
 use borrow.Author.Needs.{needs}
 use borrow.Author.Tests.{not-true, not-false}
 use Rattle.performing.proofs.Performing.{miscounted, short, stray, done}
-use Rattle.performing.proofs.perform.Statement.{statement}
-use Rattle.performing.proofs.perform.Tie as tie
+use Rattle.performing.proofs.perform_kind.Statement.{statement}
+use Rattle.performing.proofs.perform_kind.Tie as tie
 
 returns : tie.Need-returns
 returns c = miscounted (c .before .word-count-sound .ensures) (not-true _ (c .if1 .taken))
@@ -24,7 +24,7 @@ returns-4 c =
     done (w .word-count-sound .ensures) (not-false _ (s .before .before .if1 .left)) (s .before .if2 .left) (s .addresses-sound .ensures) (not-false _ (t .before .before .if3 .left))
     (t .store-all .ensures)
 
-pub perform-spec : {M : Type 1} → statement M
-perform-spec =
+pub perform-kind-spec : {M : Type 1} → statement M
+perform-kind-spec =
     tie.close (tie.spec (λ c κs. search needs) (λ c. search needs) returns (λ c. search needs) returns-2 (λ c κs. search needs) (λ c. search needs)
     returns-3 (λ c κs. search needs) (λ c. search needs) returns-4)
