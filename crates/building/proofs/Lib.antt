@@ -1,6 +1,7 @@
--- What the proofs of several functions use: pages laid for fresh blocks (Taken), how many there are at most (Room), words with bytes written into them (Splicing), and the
--- blocks of a fresh tree (Trees).
+-- What the proofs of several functions use: pages laid for fresh blocks (Taken), how many there are at most (Room), words with bytes written into them (Splicing), trees that are
+-- written whole (WholeTrees), and the blocks of a fresh tree (Trees).
 pub mod Taken
 pub mod Room
 pub mod Splicing
+pub mod WholeTrees
 pub mod Trees

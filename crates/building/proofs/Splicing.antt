@@ -1,21 +1,18 @@
 -- Bytes written over others: those under a child, and the words of a data block.
 use mathlib.Core.Path.{_≡_, refl, sym, ap, ap₂, _∙_}
 use mathlib.Core.Logic.{_≢_}
-use mathlib.Core.List.{List, [], _++_, append-nil}
-use Prim.Native.Nat.{ℕ, zero, suc, _+_, _-_, _*_, _/_, _^_, _≤_, _<_}
+use mathlib.Core.List.{List, []}
+use Prim.Native.Nat.{ℕ, zero, suc, _+_, _-_, _*_, _^_, _≤_, _<_}
 use native.Mathlib.Omega.{arith}
 use native.Mathlib.Nat.{zero-add, add-zero, pow-succ', pow-le-pow-right}
-use lib.ListN.{length, getD, take, drop, replicate, length-drop, drop-of-length-le}
+use lib.ListN.{length, getD, take, drop, length-drop, drop-of-length-le}
 use lib.Seq.{take-all, take-nil}
-use Rattle.model.specs.Lists.{tabulate}
-use Rattle.model.specs.Words.{byteOf, wordOf, wordsOf}
+use Rattle.model.specs.Words.{byteOf, wordOf}
 use Rattle.model.specs.Tree.{link}
 use Rattle.model.specs.Fresh.{part, dataPage}
-use Rattle.model.proofs.Cases.{tabulate-cong}
 use Rattle.model.proofs.Bytes.{byteOf-lt}
 use Rattle.model.proofs.Agree.{seen-live, seen-dead}
 use Rattle.model.proofs.Splice.{splice-in, splice-skip}
-use Rattle.words.specs.Filled.{Filled}
 use Rattle.building.specs.Taking.{splicedByte, SplicedByte}
 
 -- the bytes under child j, by what is skipped before them and the most that the child holds of them
@@ -48,7 +45,7 @@ module _ {x n o : ℕ} {new : List ℕ} {j i : ℕ} where
     unfolding splicedByte
     byte-old l e = record { is = e ∙ sym (splice-skip o new _ (8 * j + i) beside ∙ seen-live (n - (8 * j + i)) (byteOf x i) (omega arith)); small = rw e (byteOf-lt x i) }
 
-word-cong : (m : ℕ) (f g : ℕ → ℕ) → ((i : ℕ) → i < m → f i ≡ g i) → wordOf m f ≡ wordOf m g
+pub word-cong : (m : ℕ) (f g : ℕ → ℕ) → ((i : ℕ) → i < m → f i ≡ g i) → wordOf m f ≡ wordOf m g
 unfolding wordOf
 word-cong zero f g e = refl
 word-cong (suc m) f g e = ap₂ (λ (x y : ℕ). x + 256 * y) (e 0 (omega arith)) (word-cong m (λ i. f (suc i)) (λ i. g (suc i)) (λ i l. e (suc i) (omega arith)))
@@ -88,23 +85,6 @@ module _ {f : ℕ → ℕ} where
   whole g e = g .is ∙ rw e (word-cong 8 _ f (λ t l. ap f (zero-add t)))
 
 -- a word of a data block, by the word x that stands there
-pub data-word : (b : List ℕ) (k n o : ℕ) (new : List ℕ) (j : ℕ) {x r : ℕ} → x ≡ link 8 b k j → r ≡ wordOf 8 (splicedByte x n o new j) → r ≡ dataPage 8 b k n o new j
+pub data-word : (W : ℕ) (b : List ℕ) (k n o : ℕ) (new : List ℕ) (j : ℕ) {x r : ℕ} → x ≡ link W b k j → r ≡ wordOf 8 (splicedByte x n o new j) → r ≡ dataPage W b k n o new j
 unfolding splicedByte dataPage
-data-word b k n o new j ex e = rw ex at e
-
--- an array that is filled to its end
-pub all-filled : {f : ℕ → ℕ} {n j : ℕ} {out out′ : List ℕ} → length out ≡ n → j ≡ n → Filled f j out out′ → out′ ≡ tabulate n f
-all-filled {f} {n} {j} {out} e z c =
-    let l : length out ≤ n = omega arith in
-    rw z at (c .is) ∙ ap (λ (k : List ℕ). tabulate n f ++ k) (drop-of-length-le out l) ∙ append-nil (tabulate n f)
-
--- a block that is written whole
-pub whole-block : (b : List ℕ) (k n o : ℕ) (new : List ℕ) {page : List ℕ} → o ≡ 0 → length new ≡ 64 → page ≡ wordsOf new ++ drop (length new / 8) (replicate 8 0)
-    → page ≡ tabulate 8 (dataPage 8 b k n o new)
-unfolding wordsOf dataPage
-whole-block b k n o new z l is =
-    let eight : length new / 8 ≡ 8 = omega arith in
-    all-filled {out = replicate 8 0} refl refl (record {
-      is = rw eight at is ∙ ap (λ (ws : List ℕ). ws ++ []) (tabulate-cong 8 _ _ (λ j u. data-word b k n o new j refl
-          (word-new (link 8 b k j) n o new j (omega arith) (omega arith) (let from : 8 * j - o ≡ 8 * j = omega arith in rw from refl))));
-    })
+data-word W b k n o new j ex e = rw ex at e

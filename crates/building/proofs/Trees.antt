@@ -1,13 +1,16 @@
 -- Fresh trees as they are laid: the pages of a pointer block's children one after another, then its own.
 use mathlib.Core.Path.{_≡_, refl, sym, ap, _∙_}
 use mathlib.Core.Logic.{_≢_, inl, inr}
-use mathlib.Core.Bool.{true, false}
+use mathlib.Core.Bool.{true, false, _&&_}
 use mathlib.Core.List.{List, [], _∷_, _++_}
 use Prim.Native.Nat.{ℕ, zero, suc, _+_, _-_, _*_, _/_, _^_, _≤_, _<_}
+use native.Mathlib.Nat.{mul-suc, mul-le-mul-left}
 use native.Mathlib.Omega.{arith}
 use native.Mathlib.Numerals.{add-one, sub-one}
-use lib.ListN.{length, getD, set, length-set, getD-replicate}
-use lib.Seq.{getD-set-same, getD-set-other}
+use lib.ListN.{length, getD, set, take, List·getD-append, length-take, length-append}
+use lib.Dec.{eqb}
+use lib.Seq.{getD-set-same, getD-set-other, getD-take}
+use borrow.Rule.Slice.PartMut.{putMid, postOf}
 use Rattle.model.specs.Lists.{joined}
 use Rattle.model.specs.Tree.{seen, span, link}
 use Rattle.model.specs.Fresh.{Page, part, partLength, touched, freshNeed, freshBefore, dataPage, pointerPage, build}
@@ -16,153 +19,175 @@ use Rattle.model.proofs.Agree.{seen-live, seen-dead}
 use Rattle.model.proofs.Splice.{length-part, choose-zero, choose-pos}
 use Rattle.model.proofs.Paths.{kidNeed, fresh-none, fresh-node, fresh-pos}
 use Rattle.model.proofs.Built.{kid, kid-lengths, build-none, build-data, build-node, length-build, room}
-use Rattle.building.specs.Taking.{taking, Took}
+use Rattle.plans.specs.Onto.{taking}
+use Rattle.building.specs.Taking.{Took, whole}
+use Rattle.building.proofs.WholeTrees.{fresh-whole, all-of}
 use Rattle.building.proofs.Taken as Taken
 
 -- ---- What is built
 
--- a block has words
-pub positive : 0 < 8
-positive = omega arith
-
-module _ (free b : List ℕ) (h k n o : ℕ) (new : List ℕ) (c : ℕ) where
+module _ (W : ℕ) (pos : 0 < W) (free b : List ℕ) (h k n o : ℕ) (new : List ℕ) (c : ℕ) where
   -- the pages of child j
   abbrev pub child : ℕ → List Page
-  child j = kid 8 positive b (taking free) h k n o new c j
+  child j = kid W pos b (taking free) h k n o new c j
 
   -- the words of the block over them
   abbrev pub pointers : Page
-  pointers = pointerPage 8 (taking free) b h k n o (length new) c
+  pointers = pointerPage W (taking free) b h k n o (length new) c
 
-pub built-data : (fresh : ℕ → ℕ) (b : List ℕ) (h k n o : ℕ) (new : List ℕ) (c : ℕ) → touched 8 h k n o (length new) ≡ true → h ≡ 0 → build 8 fresh b h k n o new c ≡ dataPage 8 b k n o new ∷ []
-built-data fresh b zero k n o new c t e = build-data 8 positive b fresh k n o new c t
-built-data fresh b (suc h) k n o new c t e = absurd (omega arith)
+pub built-data : (W : ℕ) → 0 < W → (fresh : ℕ → ℕ) (b : List ℕ) (h k n o : ℕ) (new : List ℕ) (c : ℕ) → touched W h k n o (length new) ≡ true → h ≡ 0 → build W fresh b h k n o new c ≡ dataPage W b k n o new ∷ []
+built-data W pos fresh b zero k n o new c t e = build-data W pos b fresh k n o new c t
+built-data W pos fresh b (suc h) k n o new c t e = absurd (omega arith)
 
-pub built-tree : (free b : List ℕ) (h k n o : ℕ) (new : List ℕ) (c : ℕ) → touched 8 h k n o (length new) ≡ true → h ≢ 0
-    → joined 8 (child free b (h - 1) k n o new c) ++ (pointers free b (h - 1) k n o new c ∷ []) ≡ build 8 (taking free) b h k n o new c
-built-tree free b zero k n o new c t tall = absurd (tall refl)
-built-tree free b (suc h) k n o new c t tall = rw (sub-one (suc h)) (sym (build-node 8 positive b (taking free) h k n o new c t))
+pub built-tree : (W : ℕ) (pos : 0 < W) (free b : List ℕ) (h k n o : ℕ) (new : List ℕ) (c : ℕ) → touched W h k n o (length new) ≡ true → h ≢ 0
+    → joined W (child W pos free b (h - 1) k n o new c) ++ (pointers W pos free b (h - 1) k n o new c ∷ []) ≡ build W (taking free) b h k n o new c
+built-tree W pos free b zero k n o new c t tall = absurd (tall refl)
+built-tree W pos free b (suc h) k n o new c t tall = rw (sub-one (suc h)) (sym (build-node W pos b (taking free) h k n o new c t))
 
--- The pages of the children before j are laid, and the pointers before j stand in the page, 0 after them
-pub record Children (free b : List ℕ) (h k n o : ℕ) (new plan₀ : List ℕ) (base c j : ℕ) (plan page : List ℕ) (taken : ℕ) : Type 0 where
-  pub took : Took free plan₀ base c (joined j (child free b h k n o new c)) plan taken
-  pub width : length page ≡ 8
-  pub done : (i : ℕ) → i < j → getD page i 0 ≡ pointers free b h k n o new c i
-  pub ahead : (i : ℕ) → j ≤ i → i < 8 → getD page i 0 ≡ 0
+-- The pages of the children before j are laid, and the pointers before j stand in the page
+pub record Children (W : ℕ) (pos : 0 < W) (free b : List ℕ) (h k n o : ℕ) (new plan₀ : List ℕ) (base c j : ℕ) (plan page : List ℕ) (taken : ℕ) : Type 0 where
+  pub took : Took W free plan₀ base c (joined j (child W pos free b h k n o new c)) plan taken
+  pub done : (i : ℕ) → i < j → getD page i 0 ≡ pointers W pos free b h k n o new c i
 
-module _ {free b : List ℕ} {h k n o : ℕ} {new plan : List ℕ} {base c : ℕ} where
-  pub start : Children free b h k n o new plan base c 0 plan (0 ∷ 0 ∷ 0 ∷ 0 ∷ 0 ∷ 0 ∷ 0 ∷ 0 ∷ []) c
+module _ {W : ℕ} {pos : 0 < W} {free b : List ℕ} {h k n o : ℕ} {new plan page : List ℕ} {base c : ℕ} where
+  pub start : Children W pos free b h k n o new plan base c 0 plan page c
   unfolding joined
-  start = record { took = Taken.none; width = refl; done = λ i l. absurd (omega arith); ahead = λ i l m. getD-replicate 8 i 0 0 m }
+  start = record { took = Taken.none; done = λ i l. absurd (omega arith) }
 
-module _ {free b : List ℕ} {h k n o : ℕ} {new plan₀ : List ℕ} {base c j : ℕ} {plan page : List ℕ} {taken : ℕ}
-    (t : Children free b h k n o new plan₀ base c j plan page taken) where
+-- a page that is still as it was below j, with room for word j
+pub record Kept (j : ℕ) (page page′ : List ℕ) : Type 0 where
+  pub same : (i : ℕ) → i < j → getD page′ i 0 ≡ getD page i 0
+  pub room : j < length page′
+
+pub untouched : {j : ℕ} {page : List ℕ} → j < length page → Kept j page page
+untouched l = record { same = λ i m. refl; room = l }
+
+-- what lies past the page was lent
+pub lent : {j w : ℕ} (m : ℕ) (page part : List ℕ) → j < w → w ≤ length page → Kept j page (putMid w m page part)
+lent {j} {w} m page part l fits =
+    let e : length (take w page) ≡ w = simp length-take (omega arith) in
+    record {
+      same = λ i u. List·getD-append (take w page) (part ++ postOf w m page) 0 i (omega arith) ∙ getD-take w page i 0 (omega arith);
+      room = omega (arith, length-append (take w page) (part ++ postOf w m page));
+    }
+
+module _ {W : ℕ} {pos : 0 < W} {free b : List ℕ} {h k n o : ℕ} {new plan₀ : List ℕ} {base c j : ℕ} {plan page : List ℕ} {taken : ℕ}
+    (t : Children W pos free b h k n o new plan₀ base c j plan page taken) where
   -- how many blocks are taken
-  pub taken-before : taken ≡ c + freshBefore 8 b h k n o (length new) j
-  taken-before = omega (arith, t .took .next, length-joined j (child free b h k n o new c), kid-lengths 8 positive b (taking free) h k n o new c j)
+  pub taken-before : taken ≡ c + freshBefore W b h k n o (length new) j
+  taken-before = omega (arith, t .took .next, length-joined j (child W pos free b h k n o new c), kid-lengths W pos b (taking free) h k n o new c j)
 
-  -- a turn by which the page changes at j alone
-  turn : {plan′ page′ : List ℕ} {taken′ : ℕ} → Took free plan base taken (child free b h k n o new c j) plan′ taken′ → length page′ ≡ 8
-      → getD page′ j 0 ≡ pointers free b h k n o new c j → ((i : ℕ) → i ≢ j → getD page′ i 0 ≡ getD page i 0) → Children free b h k n o new plan₀ base c (j + 1) plan′ page′ taken′
+  -- a turn: child j's pages are laid, and its pointer v is stored
+  turn : {plan′ page′ page″ : List ℕ} {taken′ v : ℕ} → Took W free plan base taken (child W pos free b h k n o new c j) plan′ taken′ → v ≡ pointers W pos free b h k n o new c j
+      → Kept j page page′ → page″ ≡ set page′ j v → Children W pos free b h k n o new plan₀ base c (j + 1) plan′ page″ taken′
   unfolding joined
-  turn {plan′} {page′} {taken′} u w here other = record {
+  turn {plan′} {page′} {page″} {taken′} {v} u e kept z = record {
     took = rw (add-one j) (Taken.more (t .took) u);
-    width = w;
-    done = λ i l. elim (decide i j) [
-      | inl e ↦ rw e here
-      | inr z ↦ other i z ∙ t .done i (omega arith)
+    done = λ i m. elim (decide i j) [
+      | inl y ↦ rw (z, y) (getD-set-same page′ j v 0 (kept .room) ∙ e)
+      | inr y ↦ rw z (getD-set-other page′ j i v 0 y ∙ kept .same i (omega arith) ∙ t .done i (omega arith))
     ];
-    ahead = λ i l m. other i (omega arith) ∙ t .ahead i (omega arith) m;
   }
 
-  module _ (j-lt : j < 8) where
-    -- a turn that stores at j
-    turn-set : {plan′ : List ℕ} {taken′ v : ℕ} → Took free plan base taken (child free b h k n o new c j) plan′ taken′ → v ≡ pointers free b h k n o new c j
-        → Children free b h k n o new plan₀ base c (j + 1) plan′ (set page j v) taken′
-    turn-set {v = v} u e = turn u (length-set page j v ∙ t .width) (getD-set-same page j v 0 (omega (arith, t .width)) ∙ e) (λ i z. getD-set-other page j i v 0 z)
+  module _ {s x m o′ d : ℕ} {own : List ℕ} (es : s ≡ span W h) (eo : own ≡ part s j o new) (ex : x ≡ link W b k j) (em : m ≡ n - j * s) (eo′ : o′ ≡ o - j * s) (ed : d ≡ x / W) where
+    same : build W (taking free) b h d m o′ own taken ≡ child W pos free b h k n o new c j
+    same = cc (taken-before)
 
-    module _ {s x m o′ : ℕ} {own : List ℕ} (es : s ≡ span 8 h) (eo : own ≡ part s j o new) (ex : x ≡ link 8 b k j) (em : m ≡ n - j * s) (eo′ : o′ ≡ o - j * s) where
-      same : build 8 (taking free) b h (x / 8) m o′ own taken ≡ child free b h k n o new c j
-      same = cc (taken-before)
+    count : freshNeed W b h d m o′ (length own) ≡ kidNeed W b h k n o (length new) j
+    count =
+        let l : length own ≡ partLength (span W h) j o (length new) = ap length eo ∙ rw es (length-part (span W h) j o new) in
+        cc
 
-      count : freshNeed 8 b h (x / 8) m o′ (length own) ≡ kidNeed 8 b h k n o (length new) j
-      count =
-          let l : length own ≡ partLength (span 8 h) j o (length new) = ap length eo ∙ rw es (length-part (span 8 h) j o new) in
-          cc
+    -- a child that is not made fresh: nothing is laid, and its pointer is the old one
+    module _ (none : touched W h d m o′ (length own) ≡ false) where
+      nothing : Took W free plan base taken (child W pos free b h k n o new c j) plan taken
+      nothing = Taken.same-pages (sym (build-none W pos b (taking free) h d m o′ own taken none) ∙ same) Taken.none
 
-      -- a child that is not made fresh: nothing is laid, and its pointer is the old one
-      module _ (none : touched 8 h (x / 8) m o′ (length own) ≡ false) where
-        nothing : Took free plan base taken (child free b h k n o new c j) plan taken
-        nothing = Taken.same-pages (sym (build-none 8 positive b (taking free) h (x / 8) m o′ own taken none) ∙ same) Taken.none
+      old : pointers W pos free b h k n o new c j ≡ seen (n - j * span W h) (link W b k j)
+      unfolding pointerPage
+      old = choose-zero (kidNeed W b h k n o (length new) j) _ _ (sym count ∙ fresh-none W b h d m o′ (length own) none)
 
-        old : pointers free b h k n o new c j ≡ seen (n - j * span 8 h) (link 8 b k j)
-        unfolding pointerPage
-        old = choose-zero (kidNeed 8 b h k n o (length new) j) _ _ (sym count ∙ fresh-none 8 b h (x / 8) m o′ (length own) none)
+      module _ {page′ : List ℕ} (kept : Kept j page page′) where
+        pub dead-child : {page″ : List ℕ} → n ≤ j * s → page″ ≡ set page′ j 0 → Children W pos free b h k n o new plan₀ base c (j + 1) plan page″ taken
+        dead-child past = turn nothing (sym (old ∙ seen-dead (n - j * span W h) (link W b k j) (omega (arith, rw es at past)))) kept
 
-        pub dead-child : n ≤ j * s → Children free b h k n o new plan₀ base c (j + 1) plan page taken
-        dead-child past = turn nothing (t .width) (t .ahead j (omega arith) j-lt ∙ sym (old ∙ seen-dead (n - j * span 8 h) (link 8 b k j) (omega (arith, rw es at past)))) (λ i z. refl)
+        pub old-child : {page″ : List ℕ} → j * s < n → page″ ≡ set page′ j x → Children W pos free b h k n o new plan₀ base c (j + 1) plan page″ taken
+        old-child live = turn nothing (ex ∙ sym (old ∙ seen-live (n - j * span W h) (link W b k j) (omega (arith, rw es at live)))) kept
 
-        pub old-child : j * s < n → Children free b h k n o new plan₀ base c (j + 1) plan (set page j x) taken
-        old-child live = turn-set nothing (ex ∙ sym (old ∙ seen-live (n - j * span 8 h) (link 8 b k j) (omega (arith, rw es at live))))
-
-      pub fresh-child : {plan′ : List ℕ} {taken′ block : ℕ} → touched 8 h (x / 8) m o′ (length own) ≡ true
-          → Took free plan base taken (build 8 (taking free) b h (x / 8) m o′ own taken) plan′ taken′ → block ≡ getD free (taken′ - 1) 0
-          → Children free b h k n o new plan₀ base c (j + 1) plan′ (set page j (8 * block)) taken′
+    module _ {page′ : List ℕ} (kept : Kept j page page′) where
+      pub fresh-child : {plan′ page″ : List ℕ} {taken′ block v : ℕ} → touched W h d m o′ (length own) ≡ true → Took W free plan base taken (build W (taking free) b h d m o′ own taken) plan′ taken′
+          → block ≡ getD free (taken′ - 1) 0 → v ≡ W * block → page″ ≡ set page′ j v → Children W pos free b h k n o new plan₀ base c (j + 1) plan′ page″ taken′
       unfolding pointerPage taking
-      fresh-child {plan′} {taken′} {block} some u eb =
-          let l : ℕ = kidNeed 8 b h k n o (length new) j in
-          let at : taken′ ≡ c + freshBefore 8 b h k n o (length new) j + l = omega (arith, u .next, length-build 8 positive b (taking free) h (x / 8) m o′ own taken, count, taken-before) in
-          turn-set (Taken.same-pages same u)
-          (ap (λ (y : ℕ). 8 * y) eb ∙ ap (λ (y : ℕ). 8 * getD free (y - 1) 0) at ∙ sym (choose-pos l _ _ (omega (arith, count, fresh-pos 8 b h (x / 8) m o′ (length own) some))))
+      fresh-child {plan′} {page″} {taken′} {block} {v} some u eb ev =
+          let l : ℕ = kidNeed W b h k n o (length new) j in
+          let at : taken′ ≡ c + freshBefore W b h k n o (length new) j + l = omega (arith, u .next, length-build W pos b (taking free) h d m o′ own taken, count, taken-before) in
+          turn (Taken.same-pages same u) (ev ∙ ap (λ (y : ℕ). W * y) eb ∙ ap (λ (y : ℕ). W * getD free (y - 1) 0) at
+          ∙ sym (choose-pos l _ _ (omega (arith, count, fresh-pos W b h d m o′ (length own) some)))) kept
 
 -- ---- The tree
 
-module _ (free b : List ℕ) (h k n o : ℕ) (new : List ℕ) {plan₀ : List ℕ} {base c : ℕ} where
-  pub none : touched 8 h k n o (length new) ≡ false → Took free plan₀ base c (build 8 (taking free) b h k n o new c) plan₀ c
-  none e = Taken.same-pages (sym (build-none 8 positive b (taking free) h k n o new c e)) Taken.none
+module _ (W : ℕ) (pos : 0 < W) (free b : List ℕ) (h k n o : ℕ) (new : List ℕ) {plan₀ : List ℕ} {base c : ℕ} where
+  pub none : touched W h k n o (length new) ≡ false → Took W free plan₀ base c (build W (taking free) b h k n o new c) plan₀ c
+  none e = Taken.same-pages (sym (build-none W pos b (taking free) h k n o new c e)) Taken.none
 
-  pub leaf : {plan : List ℕ} {taken : ℕ} → touched 8 h k n o (length new) ≡ true → h ≡ 0 → Took free plan₀ base c (dataPage 8 b k n o new ∷ []) plan taken
-      → Took free plan₀ base c (build 8 (taking free) b h k n o new c) plan taken
-  leaf some low = Taken.same-pages (sym (built-data (taking free) b h k n o new c some low))
+  pub leaf : {plan : List ℕ} {taken : ℕ} → touched W h k n o (length new) ≡ true → h ≡ 0 → Took W free plan₀ base c (dataPage W b k n o new ∷ []) plan taken
+      → Took W free plan₀ base c (build W (taking free) b h k n o new c) plan taken
+  leaf some low = Taken.same-pages (sym (built-data W pos (taking free) b h k n o new c some low))
 
 -- a block that is made fresh is taken
-pub taken-some : {free plan₀ plan : List ℕ} {base c taken : ℕ} (b : List ℕ) (h k n o : ℕ) (new : List ℕ) → touched 8 h k n o (length new) ≡ true
-    → Took free plan₀ base c (build 8 (taking free) b h k n o new c) plan taken → 0 < taken
-taken-some {free} {c = c} b h k n o new some t = omega (arith, t .next, length-build 8 positive b (taking free) h k n o new c, fresh-pos 8 b h k n o (length new) some)
+pub taken-some : {W : ℕ} → 0 < W → {free plan₀ plan : List ℕ} {base c taken : ℕ} (b : List ℕ) (h k n o : ℕ) (new : List ℕ) → touched W h k n o (length new) ≡ true
+    → Took W free plan₀ base c (build W (taking free) b h k n o new c) plan taken → 0 < taken
+taken-some {W} pos {free} {c = c} b h k n o new some t = omega (arith, t .next, length-build W pos b (taking free) h k n o new c, fresh-pos W b h k n o (length new) some)
 
-need-tall : (b : List ℕ) (h k n o l : ℕ) → h ≢ 0 → freshNeed 8 b (suc (h - 1)) k n o l ≡ freshNeed 8 b h k n o l
-need-tall b h k n o l tall = let e : suc (h - 1) ≡ h = omega arith in ap (λ (x : ℕ). freshNeed 8 b x k n o l) e
+-- off the plan a tree that is written whole is counted
+pub counted : {W : ℕ} → 0 < W → {free plan : List ℕ} {base c r : ℕ} (b : List ℕ) (h k n o : ℕ) (new : List ℕ) → length plan ≤ base + W * c
+    → true ≡ (eqb o 0 && eqb (length new) (span W h)) → r ≡ whole W h → Took W free plan base c (build W (taking free) b h k n o new c) plan (c + r)
+counted {W} pos {free} {c = c} {r} b h k n o new out all e =
+    let whole-one = all-of o (length new) (span W h) all in
+    let long : length (build W (taking free) b h k n o new c) ≡ whole W h = length-build W pos b (taking free) h k n o new c ∙ rw (whole-one .0, whole-one .1) (fresh-whole W pos b h k n) in
+    Taken.off-all out (rw (e, long))
 
-tall-touched : (h k n o l : ℕ) → h ≢ 0 → touched 8 h k n o l ≡ true → touched 8 (suc (h - 1)) k n o l ≡ true
-tall-touched h k n o l tall t = let e : h ≡ suc (h - 1) = omega arith in rw e at t
+need-tall : (W : ℕ) (b : List ℕ) (h k n o l : ℕ) → h ≢ 0 → freshNeed W b (suc (h - 1)) k n o l ≡ freshNeed W b h k n o l
+need-tall W b h k n o l tall = let e : suc (h - 1) ≡ h = omega arith in ap (λ (x : ℕ). freshNeed W b x k n o l) e
 
-module _ {free b : List ℕ} {h k n o : ℕ} {new plan₀ : List ℕ} {base c j : ℕ} {plan page : List ℕ} {taken : ℕ}
-    (some : touched 8 h k n o (length new) ≡ true) (tall : h ≢ 0) (t : Children free b (h - 1) k n o new plan₀ base c j plan page taken) where
-  -- all eight children, and the block over them
-  pub node : {plan′ : List ℕ} {taken′ : ℕ} → 8 ≤ j → j ≤ 8 → Took free plan base taken ((λ i. getD page i 0) ∷ []) plan′ taken′
-      → Took free plan₀ base c (build 8 (taking free) b h k n o new c) plan′ taken′
+tall-touched : (W h k n o l : ℕ) → h ≢ 0 → touched W h k n o l ≡ true → touched W (suc (h - 1)) k n o l ≡ true
+tall-touched W h k n o l tall t = let e : h ≡ suc (h - 1) = omega arith in rw e at t
+
+module _ {W : ℕ} {pos : 0 < W} {free b : List ℕ} {h k n o : ℕ} {new plan₀ : List ℕ} {base c j : ℕ} {plan page : List ℕ} {taken : ℕ}
+    (some : touched W h k n o (length new) ≡ true) (tall : h ≢ 0) (t : Children W pos free b (h - 1) k n o new plan₀ base c j plan page taken) where
+  -- all children, and the block over them
+  pub node : {plan′ : List ℕ} {taken′ : ℕ} → W ≤ j → j ≤ W → Took W free plan base taken ((λ i. getD page i 0) ∷ []) plan′ taken′
+      → Took W free plan₀ base c (build W (taking free) b h k n o new c) plan′ taken′
   node low high u =
-      let e : j ≡ 8 = omega arith in
-      Taken.same-pages (ap (λ (i : ℕ). joined i (child free b (h - 1) k n o new c) ++ (pointers free b (h - 1) k n o new c ∷ [])) e ∙ built-tree free b h k n o new c some tall)
+      let e : j ≡ W = omega arith in
+      Taken.same-pages (ap (λ (i : ℕ). joined i (child W pos free b (h - 1) k n o new c) ++ (pointers W pos free b (h - 1) k n o new c ∷ [])) e ∙ built-tree W pos free b h k n o new c some tall)
       (Taken.more (t .took) (Taken.by-words page (λ i l. t .done i (omega arith)) u))
 
   -- the places of child j's pairs, and of those of the block over all
-  module _ (fits : base + 8 * (c + freshNeed 8 b h k n o (length new)) ≤ 2 ^ 32) where
-    pub child-fits : {s x m o′ : ℕ} {own : List ℕ} → j < 8 → s ≡ span 8 (h - 1) → own ≡ part s j o new → x ≡ link 8 b k j → m ≡ n - j * s → o′ ≡ o - j * s
-        → base + 8 * (taken + freshNeed 8 b (h - 1) (x / 8) m o′ (length own)) ≤ 2 ^ 32
-    child-fits {s} {x} {m} {o′} {own} l es eo ex em e =
-        let same : freshNeed 8 b (h - 1) (x / 8) m o′ (length own)
-        ≡ freshNeed 8 b (h - 1) (link 8 b k j / 8) (n - j * span 8 (h - 1)) (o - j * span 8 (h - 1)) (length (part (span 8 (h - 1)) j o new)) = cc in
-        let all : c + freshNeed 8 b (suc (h - 1)) k n o (length new) ≤ c + freshNeed 8 b h k n o (length new) = omega (arith, need-tall b h k n o (length new) tall) in
-        omega (arith, same, taken-before t, room 8 positive b (taking free) (h - 1) k n o new c (c + freshNeed 8 b h k n o (length new)) (tall-touched h k n o (length new) tall some) all j l)
+  module _ (fits : base + W * (c + freshNeed W b h k n o (length new)) ≤ 2 ^ 32) where
+    pub child-fits : {s x m o′ d : ℕ} {own : List ℕ} → j < W → s ≡ span W (h - 1) → own ≡ part s j o new → x ≡ link W b k j → m ≡ n - j * s → o′ ≡ o - j * s → d ≡ x / W
+        → base + W * (taken + freshNeed W b (h - 1) d m o′ (length own)) ≤ 2 ^ 32
+    child-fits {s} {x} {m} {o′} {d} {own} l es eo ex em e ed =
+        let same : freshNeed W b (h - 1) d m o′ (length own)
+        ≡ freshNeed W b (h - 1) (link W b k j / W) (n - j * span W (h - 1)) (o - j * span W (h - 1)) (length (part (span W (h - 1)) j o new)) = cc in
+        let all : c + freshNeed W b (suc (h - 1)) k n o (length new) ≤ c + freshNeed W b h k n o (length new) = omega (arith, need-tall W b h k n o (length new) tall) in
+        let less : taken + freshNeed W b (h - 1) d m o′ (length own) ≤ c + freshNeed W b h k n o (length new) =
+        omega (arith, same, taken-before t, room W pos b (taking free) (h - 1) k n o new c (c + freshNeed W b h k n o (length new)) (tall-touched W h k n o (length new) tall some) all j l) in
+        omega (arith, mul-le-mul-left W less)
 
-    pub node-fits : 8 ≤ j → j ≤ 8 → base + 8 * (taken + 1) ≤ 2 ^ 32
+    pub node-fits : W ≤ j → j ≤ W → base + W * (taken + 1) ≤ 2 ^ 32
     node-fits low high =
-        let e : j ≡ 8 = omega arith in
+        let e : j ≡ W = omega arith in
+        let less : taken + 1 ≤ c + freshNeed W b h k n o (length new) =
         omega (
           arith,
           taken-before t,
-          need-tall b h k n o (length new) tall,
-          fresh-node 8 b (h - 1) k n o (length new) (tall-touched h k n o (length new) tall some),
-          ap (freshBefore 8 b (h - 1) k n o (length new)) e,
-        )
+          need-tall W b h k n o (length new) tall,
+          fresh-node W b (h - 1) k n o (length new) (tall-touched W h k n o (length new) tall some),
+          ap (freshBefore W b (h - 1) k n o (length new)) e,
+        ) in
+        omega (arith, mul-le-mul-left W less)
+
+-- the pages of the levels: one for this, and the others'
+pub page-room : (W h m : ℕ) → h ≢ 0 → W * h ≤ m → W + W * (h - 1) ≤ m
+page-room W h m tall l = let e : h ≡ suc (h - 1) = omega arith in omega (arith, mul-suc W (h - 1), ap (λ (x : ℕ). W * x) e)

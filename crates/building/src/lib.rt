@@ -1,24 +1,32 @@
 // Fresh trees: the blocks on all paths to written bytes, and where these begin past the size, on the path to the last byte below it, laid into a plan.
-// `board` is read with the stores of `grown` performed; `free` lists the free blocks; c counts those taken; `base` is how many pairs of the plan stand
-// for no fresh block.
-use images::decode;
+// A block has 2 ^ bits words. `board` is read with the growth `grown` performed; `free` lists the free blocks; c counts those taken; `base` is how many
+// pairs of the plan stand for no fresh block.
 use images::word_at;
+use plans::Grown;
 use plans::block;
 use plans::link_on;
+use plans::pair;
 use trees::span;
+use words::block_of;
 use words::byte;
+use words::put;
+use words::start_of;
+use words::width;
 use words::word;
 ghost use mathlib.Core.Path.{_≡_};
-ghost use mathlib.Core.Bool.{true, false};
+ghost use mathlib.Core.Bool.{true, false, _&&_};
 ghost use mathlib.Core.List.{[], _∷_};
 ghost use Prim.Native.Nat.{_+_, _-_, _*_, _^_, _≤_, _<_};
 ghost use lib.ListN.{length, getD};
-ghost use Rattle.model.specs.Lists.{tabulate};
+ghost use lib.Dec.{eqb};
 ghost use Rattle.model.specs.Words.{wordOf};
 ghost use Rattle.model.specs.Tree.{span};
-ghost use Rattle.model.specs.Fresh.{part, touched, freshNeed, dataPage, build};
-ghost use Rattle.plans.specs.Laying.{onto};
-ghost use Rattle.building.specs.Taking.{taking, Blocks, Took, splicedByte, SplicedByte};
+ghost use Rattle.model.specs.Store.{laid};
+ghost use Rattle.model.specs.Fresh.{part, partLength, touched, freshNeed, dataPage, build};
+ghost use Rattle.words.specs.Width.{Width};
+ghost use Rattle.trees.specs.Trees.{Reach};
+ghost use Rattle.plans.specs.Onto.{taking, Blocks, onto, Pointers};
+ghost use Rattle.building.specs.Taking.{Took, splicedByte, SplicedByte, newStores, Whole};
 
 // a - b, or 0.
 pub fn minus(a: u64, b: u64) -> u64
@@ -29,7 +37,7 @@ pub fn minus(a: u64, b: u64) -> u64
 
 // Of the bytes written at o, those that fall under child j, each child spanning s bytes.
 pub fn part<'a>(new: &'a [u8], s: u64, j: u64, o: u64) -> &'a [u8]
-    requires { ⌜ (s ≤ 2 ^ 32) × (j ≤ 8) ⌝ }
+    requires { ⌜ (s ≤ 2 ^ 32) × (j ≤ 512) ⌝ }
     ensures { λ r. ⌜ now r ≡ part s j o (now (new .entry)) ⌝ }
 {
     let first = j * s;
@@ -46,9 +54,20 @@ pub fn part<'a>(new: &'a [u8], s: u64, j: u64, o: u64) -> &'a [u8]
     &new[skip..end]
 }
 
+// How many of l bytes written at o do.
+pub fn part_length(s: u64, j: u64, o: u64, l: u64) -> u64
+    requires { ⌜ (s ≤ 2 ^ 32) × (j ≤ 512) ⌝ }
+    ensures { λ r. ⌜ r ≡ partLength s j o l ⌝ }
+{
+    let first = j * s;
+    let most = minus(s, minus(o, first));
+    let rest = minus(l, minus(first, o));
+    if rest < most { rest } else { most }
+}
+
 // Byte i of word j of a block with `new` written at o: x stands in the word, and n bytes of the block are visible.
 fn spliced_byte(x: u64, n: u64, o: u64, new: &[u8], j: u64, i: u64) -> u64
-    requires { ⌜ (j ≤ 8) × (i < 8) ⌝ }
+    requires { ⌜ (j ≤ 512) × (i < 8) ⌝ }
     ensures { λ r. ⌜ SplicedByte x n o (now (new .entry)) j i r ⌝ }
 {
     let at = 8 * j + i;
@@ -66,7 +85,7 @@ fn spliced_byte(x: u64, n: u64, o: u64, new: &[u8], j: u64, i: u64) -> u64
 
 // That word. Where all of it is written, it is read at once.
 pub fn spliced(x: u64, n: u64, o: u64, new: &[u8], j: u64) -> u64
-    requires { ⌜ j ≤ 8 ⌝ }
+    requires { ⌜ j ≤ 512 ⌝ }
     ensures { λ r. ⌜ r ≡ wordOf 8 (splicedByte x n o (now (new .entry)) j) ⌝ }
 {
     let first = 8 * j;
@@ -85,39 +104,69 @@ pub fn spliced(x: u64, n: u64, o: u64, new: &[u8], j: u64) -> u64
     value
 }
 
-// The words of data block k with `new` written at o. Where all of it is written, nothing is read of the board.
-fn data_words(board: &[u64], grown: &[u64], k: u64, n: u64, o: u64, new: &[u8]) -> [u64; 8]
-    ensures { λ r. ⌜ r ≡ tabulate 8 (dataPage 8 (onto (now (board .entry)) (now (grown .entry))) k n o (now (new .entry))) ⌝ }
+// Word j of data block k with `new` written at o. Where all of it is written, nothing is read of the board.
+fn data_word(
+    bits: u64,
+    board: &[u64],
+    grown: Grown,
+    free: &[u64],
+    k: u64,
+    n: u64,
+    o: u64,
+    new: &[u8],
+    j: u64,
+) -> u64
+    requires { ⌜ Pointers bits (now free) grown × (j ≤ 512) ⌝ }
+    ensures { λ r. ⌜ r ≡ dataPage (2 ^ bits) (onto (2 ^ bits) (now (free .entry)) (now (board .entry)) grown) k n o (now (new .entry)) j ⌝ }
 {
-    let mut page = [0u64; 8];
-    if o == 0 {
-        if new.len() == 64 {
-            decode(new, &mut page);
-            return page;
+    let first = 8 * j;
+    if o <= first {
+        let d = (first - o) as usize;
+        if d + 8 <= new.len() {
+            return word_at(new, d);
         }
     }
-    let mut j = 0;
-    while j < 8 {
-        let x = link_on(board, grown, k, j as u64);
-        page[j] = spliced(x, n, o, new, j as u64);
-        j += 1;
-    }
-    page
+    spliced(link_on(bits, board, grown, free, k, j), n, o, new, j)
 }
 
 // Takes the next free block for a page and lays its stores. Answers how many are taken then.
-pub fn take(free: &[u64], plan: &mut [u64], base: u64, page: [u64; 8], c: u64) -> u64
-    requires { ⌜ Blocks (now free) × (base + 8 * (c + 1) ≤ 2 ^ 32) ⌝ }
-    ensures { λ r. ⌜ Took (now (free .entry)) (now (plan .entry)) base c ((λ j. getD page j 0) ∷ []) (now (plan .exit)) r ⌝ }
+pub fn take(bits: u64, free: &[u64], plan: &mut [u64], base: u64, page: &[u64], c: u64) -> u64
+    requires { ⌜ Width bits × Blocks (now free) × (base + 2 ^ bits * (c + 1) ≤ 2 ^ 32) ⌝ }
+    ensures { λ r. ⌜ Took (2 ^ bits) (now (free .entry)) (now (plan .entry)) base c ((λ j. getD (now (page .entry)) j 0) ∷ []) (now (plan .exit)) r ⌝ }
 {
-    block(plan, base + 8 * c, word(free, c), page);
+    block(bits, plan, base + start_of(bits, c), word(free, c), page);
     c + 1
 }
 
-// The same for data block k with `new` written at o. Off the plan no word is worked out.
+// Whether l bytes written at o are all of a tree of height h.
+fn all_written(bits: u64, h: u64, o: u64, l: u64) -> bool
+    requires { ⌜ Reach bits h ⌝ }
+    ensures { λ r. ⌜ r ≡ (eqb o 0 && eqb l (span (2 ^ bits) h)) ⌝ }
+{
+    if o != 0 {
+        return false;
+    }
+    l == span(bits, h)
+}
+
+// Lays the stores of the block that begins at address `to` and is written whole, from place p on.
+fn lay_new(bits: u64, plan: &mut [u64], p: u64, to: u64, new: &[u8])
+    requires { ⌜ Width bits × (p ≤ 2 ^ 32) × (to ≤ 2 ^ 63) × (length (now new) ≡ 8 * 2 ^ bits) ⌝ }
+    ensures { λ _. ⌜ now (plan .exit) ≡ laid (now (plan .entry)) p (newStores (2 ^ bits) to (now (new .entry))) ⌝ }
+{
+    let w = width(bits);
+    let mut j = 0;
+    while j < w {
+        pair(plan, p + j, to + j, word_at(new, (8 * j) as usize));
+        j += 1;
+    }
+}
+
+// Takes the next free block for data block k with `new` written at o. Off the plan no word is worked out.
 fn take_data(
+    bits: u64,
     board: &[u64],
-    grown: &[u64],
+    grown: Grown,
     free: &[u64],
     plan: &mut [u64],
     base: u64,
@@ -127,20 +176,37 @@ fn take_data(
     new: &[u8],
     c: u64,
 ) -> u64
-    requires { ⌜ Blocks (now free) × (base + 8 * (c + 1) ≤ 2 ^ 32) ⌝ }
-    ensures { λ r. ⌜ Took (now (free .entry)) (now (plan .entry)) base c (dataPage 8 (onto (now (board .entry)) (now (grown .entry))) k n o (now (new .entry)) ∷ []) (now (plan .exit)) r ⌝ }
+    requires { ⌜ Pointers bits (now free) grown × (base + 2 ^ bits * (c + 1) ≤ 2 ^ 32) ⌝ }
+    ensures { λ r. ⌜ Took (2 ^ bits) (now (free .entry)) (now (plan .entry)) base c
+        (dataPage (2 ^ bits) (onto (2 ^ bits) (now (free .entry)) (now (board .entry)) grown) k n o (now (new .entry)) ∷ []) (now (plan .exit)) r ⌝ }
 {
-    if plan.len() as u64 <= base + 8 * c {
+    let p = base + start_of(bits, c);
+    if plan.len() as u64 <= p {
         return c + 1;
     }
-    let page = data_words(board, grown, k, n, o, new);
-    take(free, plan, base, page, c)
+    let to = start_of(bits, word(free, c));
+    if all_written(bits, 0, o, new.len() as u64) {
+        lay_new(bits, plan, p, to, new);
+        return c + 1;
+    }
+    let w = width(bits);
+    let mut j = 0;
+    while j < w {
+        pair(
+            plan,
+            p + j,
+            to + j,
+            data_word(bits, board, grown, free, k, n, o, new, j),
+        );
+        j += 1;
+    }
+    c + 1
 }
 
 // Whether the block of the tree (h, k, n) is made fresh when l bytes are written at o.
-fn touched(h: u64, k: u64, n: u64, o: u64, l: u64) -> bool
-    requires { ⌜ h < 8 ⌝ }
-    ensures { λ r. ⌜ r ≡ touched 8 h k n o l ⌝ }
+fn touched(bits: u64, h: u64, k: u64, n: u64, o: u64, l: u64) -> bool
+    requires { ⌜ Reach bits h ⌝ }
+    ensures { λ r. ⌜ r ≡ touched (2 ^ bits) h k n o l ⌝ }
 {
     if l != 0 {
         return true;
@@ -154,26 +220,40 @@ fn touched(h: u64, k: u64, n: u64, o: u64, l: u64) -> bool
     if n == 0 {
         return false;
     }
-    n <= span(h)
+    n <= span(bits, h)
 }
 
 // The same for a child. `gap` says whether o lies past n in the tree above it: where it does not, as in most writes, only written bytes count.
-fn child_touched(gap: bool, h: u64, k: u64, n: u64, o: u64, l: u64) -> bool
-    requires { ⌜ (h < 8) × (gap ≡ false → o ≤ n) ⌝ }
-    ensures { λ r. ⌜ r ≡ touched 8 h k n o l ⌝ }
+fn child_touched(gap: bool, bits: u64, h: u64, k: u64, n: u64, o: u64, l: u64) -> bool
+    requires { ⌜ Reach bits h × (gap ≡ false → o ≤ n) ⌝ }
+    ensures { λ r. ⌜ r ≡ touched (2 ^ bits) h k n o l ⌝ }
 {
     if gap {
-        return touched(h, k, n, o, l);
+        return touched(bits, h, k, n, o, l);
     }
     l != 0
 }
 
-// Lays the fresh blocks of the tree (h, k, n), its own among them, with `new` written at o. Answers how many are taken then.
+// How many blocks a whole tree of height h has.
+fn whole(bits: u64, h: u64) -> u64
+    requires { ⌜ Reach bits h ⌝ }
+    ensures { λ r. ⌜ Whole (2 ^ bits) h r ⌝ }
+{
+    if h == 0 {
+        return 1;
+    }
+    start_of(bits, whole(bits, h - 1)) + 1
+}
+
+// Lays the fresh blocks of the tree (h, k, n), its own among them, with `new` written at o. Answers how many are taken then. `pages` has room for a page
+// on each level. Off the plan a tree that is written whole is only counted.
 fn build_fresh(
+    bits: u64,
     board: &[u64],
-    grown: &[u64],
+    grown: Grown,
     free: &[u64],
     plan: &mut [u64],
+    pages: &mut [u64],
     base: u64,
     h: u64,
     k: u64,
@@ -182,44 +262,69 @@ fn build_fresh(
     new: &[u8],
     c: u64,
 ) -> u64
-    requires { ⌜ (h < 8) × Blocks (now free) × (touched 8 h k n o (length (now new)) ≡ true)
-        × (base + 8 * (c + freshNeed 8 (onto (now board) (now grown)) h k n o (length (now new))) ≤ 2 ^ 32) ⌝ }
-    ensures { λ r. ⌜ Took (now (free .entry)) (now (plan .entry)) base c
-        (build 8 (taking (now (free .entry))) (onto (now (board .entry)) (now (grown .entry))) h k n o (now (new .entry)) c) (now (plan .exit)) r ⌝ }
+    requires { ⌜ Reach bits h × Pointers bits (now free) grown × (2 ^ bits * h ≤ length (now pages)) × (touched (2 ^ bits) h k n o (length (now new)) ≡ true)
+        × (base + 2 ^ bits * (c + freshNeed (2 ^ bits) (onto (2 ^ bits) (now free) (now board) grown) h k n o (length (now new))) ≤ 2 ^ 32) ⌝ }
+    ensures { λ r. ⌜ Took (2 ^ bits) (now (free .entry)) (now (plan .entry)) base c
+        (build (2 ^ bits) (taking (now (free .entry))) (onto (2 ^ bits) (now (free .entry)) (now (board .entry)) grown) h k n o (now (new .entry)) c) (now (plan .exit)) r ⌝ }
 {
     if h == 0 {
-        return take_data(board, grown, free, plan, base, k, n, o, new, c);
+        return take_data(bits, board, grown, free, plan, base, k, n, o, new, c);
+    }
+    if plan.len() as u64 <= base + start_of(bits, c) {
+        if all_written(bits, h, o, new.len() as u64) {
+            return c + whole(bits, h);
+        }
     }
     let g = h - 1;
-    let s = span(g);
+    let s = span(bits, g);
+    let w = width(bits);
+    let rest = w as usize;
     let gap = n < o;
-    let mut page = [0u64; 8];
     let mut taken = c;
     let mut j = 0;
-    // Child j is the tree (g, x / 8, m), with `own` written at p.
-    while j < 8 {
-        let first = j as u64 * s;
+    // Child j is the tree (g, below, m), with `own` written at p.
+    while j < w {
+        let first = j * s;
         let m = minus(n, first);
         let p = minus(o, first);
-        let own = part(new, s, j as u64, o);
-        let x = link_on(board, grown, k, j as u64);
-        if child_touched(gap, g, x / 8, m, p, own.len() as u64) {
-            taken = build_fresh(board, grown, free, plan, base, g, x / 8, m, p, own, taken);
-            page[j] = 8 * word(free, taken - 1);
+        let own = part(new, s, j, o);
+        let x = link_on(bits, board, grown, free, k, j);
+        let below = block_of(bits, x);
+        let mut value = 0;
+        if child_touched(gap, bits, g, below, m, p, own.len() as u64) {
+            taken = build_fresh(
+                bits,
+                board,
+                grown,
+                free,
+                plan,
+                &mut pages[rest..],
+                base,
+                g,
+                below,
+                m,
+                p,
+                own,
+                taken,
+            );
+            value = start_of(bits, word(free, taken - 1));
         } else if first < n {
-            page[j] = x;
+            value = x;
         }
+        put(pages, j, value);
         j += 1;
     }
-    take(free, plan, base, page, taken)
+    take(bits, free, plan, base, pages, taken)
 }
 
 // Lays the fresh blocks of the tree (h, k, n), of which there may be none, with `new` written at o. Answers how many are taken then.
 pub fn build(
+    bits: u64,
     board: &[u64],
-    grown: &[u64],
+    grown: Grown,
     free: &[u64],
     plan: &mut [u64],
+    pages: &mut [u64],
     base: u64,
     h: u64,
     k: u64,
@@ -228,12 +333,27 @@ pub fn build(
     new: &[u8],
     c: u64,
 ) -> u64
-    requires { ⌜ (h < 8) × Blocks (now free) × (base + 8 * (c + freshNeed 8 (onto (now board) (now grown)) h k n o (length (now new))) ≤ 2 ^ 32) ⌝ }
-    ensures { λ r. ⌜ Took (now (free .entry)) (now (plan .entry)) base c
-        (build 8 (taking (now (free .entry))) (onto (now (board .entry)) (now (grown .entry))) h k n o (now (new .entry)) c) (now (plan .exit)) r ⌝ }
+    requires { ⌜ Reach bits h × Pointers bits (now free) grown × (2 ^ bits * h ≤ length (now pages))
+        × (base + 2 ^ bits * (c + freshNeed (2 ^ bits) (onto (2 ^ bits) (now free) (now board) grown) h k n o (length (now new))) ≤ 2 ^ 32) ⌝ }
+    ensures { λ r. ⌜ Took (2 ^ bits) (now (free .entry)) (now (plan .entry)) base c
+        (build (2 ^ bits) (taking (now (free .entry))) (onto (2 ^ bits) (now (free .entry)) (now (board .entry)) grown) h k n o (now (new .entry)) c) (now (plan .exit)) r ⌝ }
 {
-    if !touched(h, k, n, o, new.len() as u64) {
+    if !touched(bits, h, k, n, o, new.len() as u64) {
         return c;
     }
-    build_fresh(board, grown, free, plan, base, h, k, n, o, new, c)
+    build_fresh(
+        bits,
+        board,
+        grown,
+        free,
+        plan,
+        pages,
+        base,
+        h,
+        k,
+        n,
+        o,
+        new,
+        c,
+    )
 }

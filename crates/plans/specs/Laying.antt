@@ -1,20 +1,16 @@
--- What functions leave in a plan, and the board with planned stores performed.
+-- What functions leave in a plan.
 use mathlib.Core.Path.{_≡_}
 use mathlib.Core.List.{List, [], _∷_}
 use Prim.Native.Nat.{ℕ, zero, suc, _+_, _*_}
 use lib.ListN.{length, getD}
 use Rattle.model.specs.declared.Answer.{Answer}
 use Rattle.model.specs.Lists.{tabulate}
-use Rattle.model.specs.Store.{Store, store, barrier, performed, paired, laid}
+use Rattle.model.specs.Store.{Store, store, barrier, laid}
 use Rattle.model.specs.Calls.{Planned}
 
--- the board with stores performed that a slice holds
-unfoldable pub onto : List ℕ → List ℕ → List ℕ
-onto b slice = performed b (paired slice)
-
--- a page's eight stores to block k, in word order
-unfoldable pub blockStores : ℕ → List ℕ → List Store
-blockStores k page = tabulate 8 (λ j. store (8 * k + j) (getD page j 0))
+-- a page's stores to block k of W words, in word order
+unfoldable pub blockStores : ℕ → ℕ → List ℕ → List Store
+blockStores W k page = tabulate W (λ j. store (W * k + j) (getD page j 0))
 
 -- what ends a step after m hidden stores: a barrier, if there are any, and the commit
 unfoldable pub closing : ℕ → Store → List Store

@@ -7,17 +7,18 @@ use lib.ListN.{length, getD}
 use Rattle.model.specs.Fresh.{need, freshPointer, build}
 use Rattle.model.proofs.Built.{length-build-null}
 use Rattle.model.proofs.Paths.{need-pos}
-use Rattle.building.specs.Taking.{taking, Took}
-use Rattle.tails.specs.Hooks.{hooks}
+use Rattle.plans.specs.Onto.{taking}
+use Rattle.building.specs.Taking.{Took}
+use Rattle.tails.specs.Stores.{hooks}
 
-module _ (b : List ℕ) (h : ℕ) (new : List ℕ) {free plan plan′ : List ℕ} {base c c′ : ℕ} (t : Took free plan base c (build 8 (taking free) b h 0 0 0 new c) plan′ c′) where
+module _ (W : ℕ) (pos : 0 < W) (b : List ℕ) (h : ℕ) (new : List ℕ) {free plan plan′ : List ℕ} {base c c′ : ℕ} (t : Took W free plan base c (build W (taking free) b h 0 0 0 new c) plan′ c′) where
   -- how many are taken then
-  taken : c′ ≡ c + need 8 h 0 (length new)
-  taken = t .next ∙ ap (λ (m : ℕ). c + m) (length-build-null 8 (omega arith) b (taking free) h 0 0 new c)
+  taken : c′ ≡ c + need W h 0 (length new)
+  taken = t .next ∙ ap (λ (m : ℕ). c + m) (length-build-null W pos b (taking free) h 0 0 new c)
 
   pub some : 0 < length new → 0 < c′
-  some l = omega (arith, taken, need-pos 8 h 0 (length new) l)
+  some l = omega (arith, taken, need-pos W h 0 (length new) l)
 
-  pub last : {w : ℕ} → w ≡ getD free (c′ - 1) 0 → 8 * w ≡ hooks free h (length new) c
+  pub last : {w v : ℕ} → w ≡ getD free (c′ - 1) 0 → v ≡ W * w → v ≡ hooks W free h (length new) c
   unfolding hooks freshPointer taking
-  last e = rw (← taken, ← e)
+  last e ev = rw (← taken, ← e) ev

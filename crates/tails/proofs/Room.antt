@@ -1,7 +1,13 @@
 -- How many fresh blocks and how many other stores a write at the end takes at most.
 use mathlib.Core.List.{List, [], _∷_}
-use Prim.Native.Nat.{ℕ, zero, suc, _+_, _-_, _*_, _/_, _≤_}
+use Prim.Native.Nat.{ℕ, zero, suc, _+_, _-_, _*_, _/_, _^_, _≤_, _<_}
 use native.Mathlib.Omega.{arith}
+use native.Mathlib.Nat.{mul-le-mul-left, div-mul-le-self, mul-comm}
+use mathlib.Core.Path.{_≡_, sym, ap, _∙_}
+use mathlib.Core.Logic.{inl, inr}
+use lib.Pow.{pow-add}
+use Rattle.words.specs.Width.{Width}
+use Rattle.model.proofs.Cases.{split}
 use lib.ListN.{length}
 use Rattle.model.specs.Lists.{choose}
 use Rattle.model.specs.Tree.{span, cell}
@@ -9,27 +15,39 @@ use Rattle.model.specs.Store.{Store, store}
 use Rattle.model.specs.Fresh.{part, partLength, dataPage}
 use Rattle.model.specs.InPlace.{tailNeed, tailBefore, tailWords, hooked, inPlace}
 use Rattle.model.proofs.Cases.{length-joined}
-use Rattle.building.proofs.Room.{most, eight, need-most}
+use Rattle.building.specs.Taking.{whole}
+use Rattle.building.proofs.Room.{terms, need-most}
 
-pub tail-most : (h n l : ℕ) → tailNeed 8 h n l ≤ most h
-unfolding tailNeed most
-tail-most zero zero l = need-most zero 0 l
-tail-most zero (suc n) l = omega arith
-tail-most (suc h) zero l = need-most (suc h) 0 l
-tail-most (suc h) (suc n) l = omega (arith, eight (λ j. tailNeed 8 h (suc n - j * span 8 h) (partLength (span 8 h) j (suc n) l)) (most h) (λ j. tail-most h (suc n - j * span 8 h) (partLength (span 8 h) j (suc n) l)))
+-- the words of the block that a word points to have addresses
+pub address-room : {b : ℕ} → Width b → (v : ℕ) → v < 2 ^ 64 → 2 ^ b * (v / 2 ^ b) + 2 ^ b ≤ 2 ^ 64
+address-room {b} w v l =
+    let q : ℕ = 2 ^ (64 - b) in
+    let e : b + (64 - b) ≡ 64 = omega (arith, w .high) in
+    let whole : 2 ^ b * q ≡ 2 ^ 64 = sym (pow-add 2 b (64 - b)) ∙ ap (λ (x : ℕ). 2 ^ x) e in
+    elim (split q (v / 2 ^ b)) [
+      | inl m ↦ absurd (omega (arith, mul-le-mul-left (2 ^ b) m, div-mul-le-self v (2 ^ b), mul-comm (2 ^ b) (v / 2 ^ b), whole))
+      | inr m ↦ let n : v / 2 ^ b + 1 ≤ q = omega arith in omega (arith, mul-le-mul-left (2 ^ b) n, whole)
+    ]
+
+pub tail-most : (W h n l : ℕ) → tailNeed W h n l ≤ whole W h
+unfolding tailNeed whole
+tail-most W zero zero l = need-most W zero 0 l
+tail-most W zero (suc n) l = omega arith
+tail-most W (suc h) zero l = need-most W (suc h) 0 l
+tail-most W (suc h) (suc n) l = omega (arith, terms W (λ j. tailNeed W h (suc n - j * span W h) (partLength (span W h) j (suc n) l)) (whole W h) (λ j. tail-most W h (suc n - j * span W h) (partLength (span W h) j (suc n) l)))
 
 at-most-one : {A : Type 0} (m : ℕ) (x : A) → length (choose m [] (x ∷ [])) ≤ 1
 unfolding choose
 at-most-one zero x = omega arith
 at-most-one (suc m) x = omega arith
 
-module _ (b : List ℕ) (hook : ℕ → ℕ → ℕ → ℕ) where
-  words-most : (k n : ℕ) (new : List ℕ) → length (tailWords 8 b k n new) ≤ 8
+module _ (W : ℕ) (pos : 0 < W) (b : List ℕ) (hook : ℕ → ℕ → ℕ → ℕ) where
+  words-most : (k n : ℕ) (new : List ℕ) → length (tailWords W b k n new) ≤ W
   unfolding tailWords
   words-most k n new = omega (
     arith,
-    length-joined 8 (λ j. choose (partLength 8 j n (length new)) [] (store (8 * k + j) (dataPage 8 b k n n new j) ∷ [])),
-    eight (λ j. length (choose (partLength 8 j n (length new)) [] (store (8 * k + j) (dataPage 8 b k n n new j) ∷ []))) 1 (λ j. at-most-one (partLength 8 j n (length new)) (store (8 * k + j) (dataPage 8 b k n n new j))),
+    length-joined W (λ j. choose (partLength 8 j n (length new)) [] (store (W * k + j) (dataPage W b k n n new j) ∷ [])),
+    terms W (λ j. length (choose (partLength 8 j n (length new)) [] (store (W * k + j) (dataPage W b k n n new j) ∷ []))) 1 (λ j. at-most-one (partLength 8 j n (length new)) (store (W * k + j) (dataPage W b k n n new j))),
   )
 
   hooked-most : (h : ℕ) (new : List ℕ) (c a : ℕ) → length (hooked hook h new c a) ≤ 1
@@ -37,18 +55,20 @@ module _ (b : List ℕ) (hook : ℕ → ℕ → ℕ → ℕ) where
   hooked-most h [] c a = omega arith
   hooked-most h (x ∷ new) c a = omega arith
 
-  pub place-most : (h k n : ℕ) (new : List ℕ) (c a : ℕ) → length (inPlace 8 b hook h k n new c a) ≤ 8 * most h
-  unfolding inPlace most
-  place-most zero k zero new c a = omega (arith, hooked-most zero new c a)
+  pub place-most : (h k n : ℕ) (new : List ℕ) (c a : ℕ) → length (inPlace W b hook h k n new c a) ≤ W * whole W h
+  unfolding inPlace whole
+  place-most zero k zero new c a = omega (arith, pos, hooked-most zero new c a)
   place-most zero zero (suc n) new c a = omega arith
-  place-most zero (suc k) (suc n) new c a = words-most (suc k) (suc n) new
-  place-most (suc h) k zero new c a = omega (arith, hooked-most (suc h) new c a)
+  place-most zero (suc k) (suc n) new c a = omega (arith, words-most (suc k) (suc n) new)
+  place-most (suc h) k zero new c a = let l : 1 ≤ W * whole W h + 1 = omega arith in omega (arith, pos, mul-le-mul-left W l, hooked-most (suc h) new c a)
   place-most (suc h) zero (suc n) new c a = omega arith
   place-most (suc h) (suc k) (suc n) new c a =
-      let f : ℕ → List Store = λ j. inPlace 8 b hook h (cell 8 b (suc k) j / 8) (suc n - j * span 8 h) (part (span 8 h) j (suc n) new) (c + tailBefore 8 h (suc n) (length new) j) (8 * suc k + j) in
+      let f : ℕ → List Store = λ j. inPlace W b hook h (cell W b (suc k) j / W) (suc n - j * span W h) (part (span W h) j (suc n) new) (c + tailBefore W h (suc n) (length new) j) (W * suc k + j) in
+      let l : W * whole W h ≤ W * whole W h + 1 = omega arith in
       omega (
         arith,
-        length-joined 8 f,
-        eight (λ j. length (f j)) (8 * most h)
-            (λ j. place-most h (cell 8 b (suc k) j / 8) (suc n - j * span 8 h) (part (span 8 h) j (suc n) new) (c + tailBefore 8 h (suc n) (length new) j) (8 * suc k + j)),
+        mul-le-mul-left W l,
+        length-joined W f,
+        terms W (λ j. length (f j)) (W * whole W h)
+            (λ j. place-most h (cell W b (suc k) j / W) (suc n - j * span W h) (part (span W h) j (suc n) new) (c + tailBefore W h (suc n) (length new) j) (W * suc k + j)),
       )

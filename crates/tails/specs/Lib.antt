@@ -1,1 +1,1 @@
-pub mod Hooks
+pub mod Stores

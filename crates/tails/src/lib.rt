@@ -1,39 +1,51 @@
 // Writing at the end of a file in place: fresh subtrees, and stores to words that exist. The names of arguments are those of `building`; n is both the
-// end of the tree's visible bytes and the place where `new` is written.
+// end of the tree's visible bytes and the place where `new` is written. A block has 2 ^ bits words; `pages` has room for a page on each level.
 use building::build;
 use building::minus;
 use building::part;
+use building::part_length;
 use building::spliced;
 use model::WalkEnd;
+use plans::Grown;
 use plans::cell_on;
 use plans::link_on;
+use plans::not_grown;
 use plans::pair;
 use trees::span;
+use words::block_of;
+use words::cell;
+use words::start_of;
+use words::width;
 use words::word;
 ghost use mathlib.Core.Path.{_≡_};
 ghost use Prim.Native.Nat.{_+_, _*_, _^_, _≤_, _<_};
-ghost use lib.ListN.{length};
+ghost use lib.ListN.{length, replicate};
 ghost use Rattle.model.specs.Fresh.{need};
-ghost use Rattle.model.specs.InPlace.{tailNeed, walkLive, tailPages, tailWords, inPlace};
-ghost use Rattle.plans.specs.Laying.{onto, Laid};
-ghost use Rattle.building.specs.Taking.{taking, Blocks, Took};
-ghost use Rattle.tails.specs.Hooks.{hooks};
+ghost use Rattle.model.specs.InPlace.{tailNeed, walkLive, tailPages, inPlace};
+ghost use Rattle.trees.specs.Trees.{Reach};
+ghost use Rattle.plans.specs.Laying.{Laid};
+ghost use Rattle.plans.specs.Onto.{taking, onto, Pointers};
+ghost use Rattle.building.specs.Taking.{Took};
+ghost use Rattle.tails.specs.Stores.{hooks, wordStores};
 
 // The walk to byte n of the tree (h, k, n), the first past its visible bytes, along live pointers: a hole where one of them is null.
-pub fn walk_live(board: &[u64], grown: &[u64], h: u64, k: u64, n: u64) -> WalkEnd
-    requires { ⌜ h < 8 ⌝ }
-    ensures { λ r. ⌜ r ≡ walkLive 8 (onto (now (board .entry)) (now (grown .entry))) h k n ⌝ }
+pub fn walk_live(
+    bits: u64,
+    board: &[u64],
+    grown: Grown,
+    free: &[u64],
+    h: u64,
+    k: u64,
+    n: u64,
+) -> WalkEnd
+    requires { ⌜ Reach bits h × Pointers bits (now free) grown ⌝ }
+    ensures { λ r. ⌜ r ≡ walkLive (2 ^ bits) (onto (2 ^ bits) (now (free .entry)) (now (board .entry)) grown) h k n ⌝ }
 {
     if h != 0 {
-        let s = span(h - 1);
+        let s = span(bits, h - 1);
         if n % s != 0 {
-            return walk_live(
-                board,
-                grown,
-                h - 1,
-                link_on(board, grown, k, n / s) / 8,
-                n % s,
-            );
+            let below = block_of(bits, link_on(bits, board, grown, free, k, n / s));
+            return walk_live(bits, board, grown, free, h - 1, below, n % s);
         }
     }
     if k == 0 {
@@ -45,25 +57,31 @@ pub fn walk_live(board: &[u64], grown: &[u64], h: u64, k: u64, n: u64) -> WalkEn
     WalkEnd::Block(k)
 }
 
-// Lays the words of data block k that hold bytes of `new`, from place p on. Answers the next place.
+// Lays the words of data block k that hold some of l bytes written at its end, from place p on: `new` is what is written, and zeros behind it. Answers
+// the next place.
 fn tail_words(
+    bits: u64,
     board: &[u64],
-    grown: &[u64],
+    grown: Grown,
+    free: &[u64],
     plan: &mut [u64],
     p: u64,
     k: u64,
     n: u64,
+    l: u64,
     new: &[u8],
 ) -> u64
-    requires { ⌜ (k < 2 ^ 61) × (0 < k) × (p + length (tailWords 8 (onto (now board) (now grown)) k n (now new)) ≤ 2 ^ 32) ⌝ }
-    ensures { λ r. ⌜ Laid (now (plan .entry)) p (tailWords 8 (onto (now (board .entry)) (now (grown .entry))) k n (now (new .entry))) (now (plan .exit)) r ⌝ }
+    requires { ⌜ Pointers bits (now free) grown × (2 ^ bits * k + 2 ^ bits ≤ 2 ^ 64) × (0 < k) × (p + length (wordStores (2 ^ bits) (onto (2 ^ bits) (now free) (now board) grown) k n l (now new)) ≤ 2 ^ 32) ⌝ }
+    ensures { λ r. ⌜ Laid (now (plan .entry)) p (wordStores (2 ^ bits) (onto (2 ^ bits) (now (free .entry)) (now (board .entry)) grown) k n l (now (new .entry))) (now (plan .exit)) r ⌝ }
 {
+    let w = width(bits);
+    let to = start_of(bits, k);
     let mut q = p;
     let mut j = 0;
-    while j < 8 {
-        if part(new, 8, j, n).len() != 0 {
-            let x = cell_on(board, grown, k, j);
-            pair(plan, q, 8 * k + j, spliced(x, n, n, new, j));
+    while j < w {
+        if part_length(8, j, n, l) != 0 {
+            let x = cell_on(bits, board, grown, free, k, j);
+            pair(plan, q, to + j, spliced(x, n, n, new, j));
             q += 1;
         }
         j += 1;
@@ -73,10 +91,12 @@ fn tail_words(
 
 // Lays the fresh subtrees under pointers that aren't live and lead to written bytes. Answers how many blocks are taken then.
 pub fn tail_pages(
+    bits: u64,
     board: &[u64],
-    grown: &[u64],
+    grown: Grown,
     free: &[u64],
     plan: &mut [u64],
+    pages: &mut [u64],
     base: u64,
     h: u64,
     k: u64,
@@ -84,31 +104,48 @@ pub fn tail_pages(
     new: &[u8],
     c: u64,
 ) -> u64
-    requires { ⌜ (h < 8) × Blocks (now free) × (base + 8 * (c + tailNeed 8 h n (length (now new))) ≤ 2 ^ 32) ⌝ }
-    ensures { λ r. ⌜ Took (now (free .entry)) (now (plan .entry)) base c
-        (tailPages 8 (onto (now (board .entry)) (now (grown .entry))) (taking (now (free .entry))) h k n (now (new .entry)) c) (now (plan .exit)) r ⌝ }
+    requires { ⌜ Reach bits h × Pointers bits (now free) grown × (2 ^ bits * h ≤ length (now pages)) × (base + 2 ^ bits * (c + tailNeed (2 ^ bits) h n (length (now new))) ≤ 2 ^ 32) ⌝ }
+    ensures { λ r. ⌜ Took (2 ^ bits) (now (free .entry)) (now (plan .entry)) base c
+        (tailPages (2 ^ bits) (onto (2 ^ bits) (now (free .entry)) (now (board .entry)) grown) (taking (now (free .entry))) h k n (now (new .entry)) c) (now (plan .exit)) r ⌝ }
 {
     if n == 0 {
-        return build(board, grown, free, plan, base, h, 0, 0, 0, new, c);
+        return build(
+            bits,
+            board,
+            grown,
+            free,
+            plan,
+            pages,
+            base,
+            h,
+            0,
+            0,
+            0,
+            new,
+            c,
+        );
     }
     if h == 0 {
         return c;
     }
-    let s = span(h - 1);
+    let s = span(bits, h - 1);
+    let w = width(bits);
     let mut taken = c;
     let mut j = 0;
-    while j < 8 {
+    while j < w {
         let own = part(new, s, j, n);
         if own.len() != 0 {
-            let x = link_on(board, grown, k, j);
+            let x = link_on(bits, board, grown, free, k, j);
             taken = tail_pages(
+                bits,
                 board,
                 grown,
                 free,
                 plan,
+                pages,
                 base,
                 h - 1,
-                x / 8,
+                block_of(bits, x),
                 minus(n, j * s),
                 own,
                 taken,
@@ -120,24 +157,46 @@ pub fn tail_pages(
 }
 
 // The pointer to the fresh tree of height h that `new` gets, c blocks being taken before: the last block that it takes. It is built off any plan.
-fn hook(board: &[u64], grown: &[u64], free: &[u64], h: u64, new: &[u8], c: u64) -> u64
-    requires { ⌜ (h < 8) × Blocks (now free) × (0 < length (now new)) × (8 * (c + need 8 h 0 (length (now new))) ≤ 2 ^ 32) ⌝ }
-    ensures { λ r. ⌜ r ≡ hooks (now (free .entry)) h (length (now (new .entry))) c ⌝ }
+fn hook(
+    bits: u64,
+    board: &[u64],
+    grown: Grown,
+    free: &[u64],
+    pages: &mut [u64],
+    h: u64,
+    new: &[u8],
+    c: u64,
+) -> u64
+    requires { ⌜ Reach bits h × Pointers bits (now free) grown × (2 ^ bits * h ≤ length (now pages)) × (0 < length (now new)) × (2 ^ bits * (c + need (2 ^ bits) h 0 (length (now new))) ≤ 2 ^ 32) ⌝ }
+    ensures { λ r. ⌜ r ≡ hooks (2 ^ bits) (now (free .entry)) h (length (now (new .entry))) c ⌝ }
 {
     let mut none = [0u64; 0];
-    8
-        * word(
-            free,
-            build(board, grown, free, &mut none, 0, h, 0, 0, 0, new, c) - 1,
-        )
+    let taken = build(
+        bits,
+        board,
+        grown,
+        free,
+        &mut none,
+        pages,
+        0,
+        h,
+        0,
+        0,
+        0,
+        new,
+        c,
+    );
+    start_of(bits, word(free, taken - 1))
 }
 
 // Lays the stores to words that exist, from place p on, for the tree (h, k, n) whose pointer stands at address a. Answers the next place.
 pub fn in_place(
+    bits: u64,
     board: &[u64],
-    grown: &[u64],
+    grown: Grown,
     free: &[u64],
     plan: &mut [u64],
+    pages: &mut [u64],
     p: u64,
     h: u64,
     k: u64,
@@ -146,48 +205,125 @@ pub fn in_place(
     c: u64,
     a: u64,
 ) -> u64
-    requires { ⌜ (h < 8) × (k < 2 ^ 61) × Blocks (now free) × (8 * (c + tailNeed 8 h n (length (now new))) ≤ 2 ^ 32)
-        × (p + length (inPlace 8 (onto (now board) (now grown)) (hooks (now free)) h k n (now new) c a) ≤ 2 ^ 32) ⌝ }
+    requires { ⌜ Reach bits h × (2 ^ bits * k + 2 ^ bits ≤ 2 ^ 64) × Pointers bits (now free) grown × (2 ^ bits * h ≤ length (now pages)) × (2 ^ bits * (c + tailNeed (2 ^ bits) h n (length (now new))) ≤ 2 ^ 32)
+        × (p + length (inPlace (2 ^ bits) (onto (2 ^ bits) (now free) (now board) grown) (hooks (2 ^ bits) (now free)) h k n (now new) c a) ≤ 2 ^ 32) ⌝ }
     ensures { λ r. ⌜ Laid (now (plan .entry)) p
-        (inPlace 8 (onto (now (board .entry)) (now (grown .entry))) (hooks (now (free .entry))) h k n (now (new .entry)) c a) (now (plan .exit)) r ⌝ }
+        (inPlace (2 ^ bits) (onto (2 ^ bits) (now (free .entry)) (now (board .entry)) grown) (hooks (2 ^ bits) (now (free .entry))) h k n (now (new .entry)) c a) (now (plan .exit)) r ⌝ }
 {
     if n == 0 {
         if new.len() == 0 {
             return p;
         }
-        pair(plan, p, a, hook(board, grown, free, h, new, c));
+        pair(plan, p, a, hook(bits, board, grown, free, pages, h, new, c));
         return p + 1;
     }
     if k == 0 {
         return p;
     }
     if h == 0 {
-        return tail_words(board, grown, plan, p, k, n, new);
+        return tail_words(
+            bits,
+            board,
+            grown,
+            free,
+            plan,
+            p,
+            k,
+            n,
+            new.len() as u64,
+            new,
+        );
     }
-    let s = span(h - 1);
+    let s = span(bits, h - 1);
+    let w = width(bits);
+    let to = start_of(bits, k);
     let mut none = [0u64; 0];
     let mut taken = c;
     let mut q = p;
     let mut j = 0;
-    while j < 8 {
+    while j < w {
         let own = part(new, s, j, n);
         if own.len() != 0 {
-            let x = cell_on(board, grown, k, j) / 8;
+            let x = block_of(bits, cell_on(bits, board, grown, free, k, j));
             let left = minus(n, j * s);
             q = in_place(
+                bits,
                 board,
                 grown,
                 free,
                 plan,
+                pages,
                 q,
                 h - 1,
                 x,
                 left,
                 own,
                 taken,
-                8 * k + j,
+                to + j,
             );
-            taken = tail_pages(board, grown, free, &mut none, 0, h - 1, x, left, own, taken);
+            taken = tail_pages(
+                bits,
+                board,
+                grown,
+                free,
+                &mut none,
+                pages,
+                0,
+                h - 1,
+                x,
+                left,
+                own,
+                taken,
+            );
+        }
+        j += 1;
+    }
+    q
+}
+
+// Lays the stores of l zeros written in place at the end of the tree (h, k, n), whose pointer stands at address a, from place p on: a pointer that isn't
+// live gets 0. Answers the next place.
+pub fn clear_in_place(
+    bits: u64,
+    board: &[u64],
+    plan: &mut [u64],
+    p: u64,
+    h: u64,
+    k: u64,
+    n: u64,
+    l: u64,
+    a: u64,
+) -> u64
+    requires { ⌜ Reach bits h × (2 ^ bits * k + 2 ^ bits ≤ 2 ^ 64) × (p + length (inPlace (2 ^ bits) (now board) (λ h l c. 0) h k n (replicate l 0) 0 a) ≤ 2 ^ 32) ⌝ }
+    ensures { λ r. ⌜ Laid (now (plan .entry)) p (inPlace (2 ^ bits) (now (board .entry)) (λ h l c. 0) h k n (replicate l 0) 0 a) (now (plan .exit)) r ⌝ }
+{
+    if n == 0 {
+        if l == 0 {
+            return p;
+        }
+        pair(plan, p, a, 0);
+        return p + 1;
+    }
+    if k == 0 {
+        return p;
+    }
+    if h == 0 {
+        // Behind the bytes it is given, tail_words lays zeros. Here there are none.
+        let none = [0u64; 0];
+        let nothing = [0u8; 0];
+        return tail_words(bits, board, not_grown(), &none, plan, p, k, n, l, &nothing);
+    }
+    let s = span(bits, h - 1);
+    let w = width(bits);
+    let to = start_of(bits, k);
+    let mut q = p;
+    let mut j = 0;
+    while j < w {
+        let own = part_length(s, j, n, l);
+        if own != 0 {
+            let below = block_of(bits, cell(bits, board, k, j));
+            let left = minus(n, j * s);
+            q = clear_in_place(bits, board, plan, q, h - 1, below, left, own, to + j);
         }
         j += 1;
     }

@@ -1,18 +1,27 @@
--- The measure is the height; the loop has laid the children before j, and their pointers stand in the page.
-use mathlib.Core.Path.{sym, _∙_}
+-- The measure is the height; the loop has laid the children before j, and their pointers stand in the first page.
+use mathlib.Core.Path.{_≡_, refl, sym, ap, _∙_}
 use mathlib.Core.Logic.{⊎-elim}
-use Prim.Native.Nat.{ℕ, _-_, _≤_, _<_}
+use Prim.Native.Nat.{ℕ, _+_, _-_, _*_, _^_, _≤_, _<_}
 use native.Mathlib.Omega.{arith}
-use native.Mathlib.Nat.{mul-le-mul}
-use lib.ListN.{length}
+use native.Mathlib.Nat.{mul-le-mul, mul-le-mul-left}
+use lib.ListN.{length, length-set, length-drop}
+use lib.Pow.{pow-pos}
 use borrow.Author.Needs.{needs}
 use borrow.Author.Tests.{ltb-false}
+use borrow.Rule.Slice.PartAt.{part-to-end}
+use borrow.Rule.Slice.PartMut.{same-len-mid}
 use borrow.Fn.Kinds.{In, Out}
 use borrow.Fn.PlainCycle.{Measures, is, falls, and}
+use Rattle.words.proofs.Widths as Widths
+use Rattle.words.proofs.block_of.Reads as block-of-reads
+use Rattle.words.proofs.put.Reads as put-reads
+use Rattle.words.proofs.start_of.Reads as start-of-reads
+use Rattle.words.proofs.width.Reads as width-reads
 use Rattle.words.proofs.word.Reads as word-reads
+use Rattle.trees.proofs.Reaching.{lower}
 use Rattle.trees.proofs.span.Reads as span-reads
 use Rattle.model.proofs.Paths.{fresh-pos}
-use Rattle.plans.specs.Laying.{onto}
+use Rattle.plans.specs.Onto.{onto}
 use Rattle.plans.proofs.link_on.Reads as link-on-reads
 use Rattle.building.proofs.+build_fresh.{statement}
 use Rattle.building.proofs.+build_fresh.Lts-build_fresh as lts
@@ -21,14 +30,16 @@ use Rattle.building.proofs.Taken as Taken
 use Rattle.building.proofs.Trees as Trees
 use Rattle.building.proofs.build_fresh.Kinds as kinds
 use Rattle.building.proofs.build_fresh.Reads as build-fresh
+use Rattle.building.proofs.all_written.Reads as all-written-reads
 use Rattle.building.proofs.child_touched.Reads as child-touched-reads
 use Rattle.building.proofs.minus.Reads as minus-reads
 use Rattle.building.proofs.part.Reads as part-reads
 use Rattle.building.proofs.take.Reads as take-reads
 use Rattle.building.proofs.take_data.Reads as take-data-reads
+use Rattle.building.proofs.whole.Reads as whole-reads
 
 abbrev μ : Measures 5 kinds.ps ℕ
-μ κs a = a .1 .1 .1 .1 .1 .0
+μ κs a = a .1 .1 .1 .1 .1 .1 .1 .0
 
 abbrev at : ℕ → In 5 kinds.ps
 at t = and 5 kinds.ps (is 5 kinds.ps μ t) build-fresh.Pre
@@ -40,111 +51,190 @@ abbrev known : ℕ → lts.Claims
 known t = (
   take-data-reads.Asked,
   take-data-reads.Learnt,
+  start-of-reads.Asked,
+  start-of-reads.Learnt,
+  all-written-reads.Asked,
+  all-written-reads.Learnt,
+  whole-reads.Asked,
+  whole-reads.Learnt,
   span-reads.Asked,
   span-reads.Learnt,
+  width-reads.Asked,
+  width-reads.Learnt,
   minus-reads.Asked,
   minus-reads.Learnt,
   part-reads.Asked,
   part-reads.Learnt,
   link-on-reads.Asked,
   link-on-reads.Learnt,
+  block-of-reads.Asked,
+  block-of-reads.Learnt,
   child-touched-reads.Asked,
   child-touched-reads.Learnt,
   below t,
   build-fresh.Post,
   word-reads.Asked,
   word-reads.Learnt,
+  put-reads.Asked,
+  put-reads.Learnt,
   take-reads.Asked,
   take-reads.Learnt,
 )
 
+-- the first of some blocks fits
+first-fits : (W base c m : ℕ) → base + W * (c + m) ≤ 2 ^ 32 → 0 < m → base + W * (c + 1) ≤ 2 ^ 32
+first-fits W base c m l p = let q : c + 1 ≤ c + m = omega arith in omega (arith, mul-le-mul-left W q)
+
 abbrev Inv-loop : lts.InvT-loop
-Inv-loop board grown free plan₀ base h k n o new c g s gap page₀ taken₀ j₀ plan page taken j =
-    (j ≤ 8) × Trees.Children free (onto board grown) (h - 1) k n o new plan₀ base c j plan page taken
+Inv-loop bits board grown free plan₀ pages₀ base h k n o new c g s w rest gap taken₀ j₀ plan pages taken j =
+    (j ≤ w) × (length pages ≡ length pages₀) × Trees.Children (2 ^ bits) (pow-pos bits) free (onto (2 ^ bits) free board grown) (h - 1) k n o new plan₀ base c j plan pages taken
 
 abbrev μ-loop : lts.MeasureT-loop
-μ-loop board grown free plan₀ base h k n o new c g s gap page₀ taken₀ j₀ plan page taken j = 8 - j
+μ-loop bits board grown free plan₀ pages₀ base h k n o new c g s w rest gap taken₀ j₀ plan pages taken j = w - j
 
 module _ (t : ℕ) where
   abbrev N : (lts.Claims → In 5 kinds.ps → Out 5 kinds.ps kinds.r → lts.InvT-loop → lts.MeasureT-loop → Type 0) → Type 0
   N F = F (known t) (at t) build-fresh.Post Inv-loop μ-loop
 
+  -- the first block of the tree fits
+  fits : (c : N lts.Start) → let x = c .args in x .base + 2 ^ x .bits * (x .c + 1) ≤ 2 ^ 32
+  fits c = let x = c .args in
+      first-fits _ (x .base) (x .c) _ (c .pre .1 .4) (fresh-pos (2 ^ x .bits) (onto (2 ^ x .bits) (x .free .now) (x .board .now) (x .grown)) (x .h) (x .k) (x .n) (x .o) (length (x .new .now)) (c .pre .1 .3))
+
+  -- a page for this level, and those of the levels below it
+  room : (c : N lts.At-loop) → let a = c .before .before .before .before .before .before .before .before .before .before .before in c .before .width .result + 2 ^ a .args .bits * (a .args .h - 1) ≤ length (c .loop .pages)
+  room c = let a = c .before .before .before .before .before .before .before .before .before .before .before in
+      omega (arith, Trees.page-room (2 ^ a .args .bits) (a .args .h) (length (a .args .pages .now)) (c .before .before .before .before .before .if1 .left) (a .pre .1 .2), c .before .width .ensures .is, c .loop .inv .1)
+
   take-data-requires : N lts.Need-take-data-requires
-  take-data-requires c κs = let a = c .before .before .before .before .before .before .before in let x = a .args in
-      (a .pre .1 .1, omega (arith, a .pre .1 .3, fresh-pos 8 (onto (x .board .now) (x .grown .now)) (x .h) (x .k) (x .n) (x .o) (length (x .new .now)) (a .pre .1 .2)))
+  take-data-requires c κs = let a = c .before .before .before .before .before .before .before in (a .pre .1 .1, fits a)
 
   returns : N lts.Need-returns
-  returns c = Trees.leaf _ _ _ _ _ _ _ (c .before .before .before .before .before .before .before .before .before .before .pre .1 .2) (c .before .before .before .before .if1 .taken) (c .before .before .take-data .ensures)
+  returns c = Trees.leaf _ (pow-pos _) _ _ _ _ _ _ _ (c .before .before .before .before .before .before .before .before .before .before .pre .1 .3) (c .before .before .before .before .if1 .taken) (c .before .before .take-data .ensures)
 
-  loop-holds : N lts.Need-loop-holds
-  loop-holds c = (omega arith, Trees.start)
+  start-of-requires : N lts.Need-start-of-requires
+  start-of-requires c κs = let a = c .before .before .before .before .before .before in (omega (arith, a .pre .1 .0 .width .high), omega (arith, fits a))
 
-  mul-first : N lts.Need-mul-first
-  mul-first c = omega (arith, mul-le-mul (c .loop-test .taken) (c .before .before .span .ensures .high))
+  add-if2 : N lts.Need-add-if2
+  add-if2 c = omega (arith, c .start-of .ensures, fits (c .before .before .before .before .before .before .before))
 
-  child-touched-requires : N lts.Need-child-touched-requires
-  child-touched-requires c κs = let a = c .before .before .before .before .before .before .before .before .before .before .before .before .before in
-      (omega (arith, a .pre .1 .0), λ none. omega (arith, ltb-false (a .args .n) (a .args .o) none, c .before .before .before .minus .ensures, c .before .before .minus2 .ensures))
-
-  build-fresh-requires : N lts.Need-build-fresh-requires
-  build-fresh-requires c κs = let x = c .before .before .before in let l = x .before .before .before .before .before in let a = l .before .before .before .before .before .before .before .before in
-      let room = Trees.child-fits (a .pre .1 .2) (l .before .before .if1 .left) (l .loop .inv .1) (a .pre .1 .3) (x .before .before .before .before .loop-test .taken)
-      (l .before .span .ensures .is) (x .before .part .ensures) (x .link-on .ensures) (x .before .before .before .minus .ensures) (x .before .before .minus2 .ensures) in
-      (omega (arith, a .pre .0, l .before .before .if1 .left), (omega (arith, a .pre .1 .0), a .pre .1 .1, sym (c .before .before .child-touched .ensures) ∙ c .before .if2 .taken, room))
-
-  sub-word : N lts.Need-sub-word
-  sub-word c = let f = c .before .before .before .before in Trees.taken-some _ _ _ _ _ _ (sym (f .before .child-touched .ensures) ∙ f .if2 .taken) (c .before .before .build-fresh .ensures)
-
-  mul-page : N lts.Need-mul-page
-  mul-page c = let l = c .before .before .before .before .before .before .before .before .before .before .before .before in let a = l .before .before .before .before .before .before .before .before in omega (arith, Taken.block-small _ (a .pre .1 .1) (c .word .ensures))
-
-  loop-again : N lts.Need-loop-again
-  loop-again c = let x = c .before .before in let l = x .before .before .before .before .before in let inv = l .loop .inv .1 in let less = x .before .before .before .before .loop-test .taken in
-      let is = l .before .span .ensures .is in let own = x .before .part .ensures in let old = x .link-on .ensures in
-      let left = x .before .before .before .minus .ensures in let at = x .before .before .minus2 .ensures in let test = sym (c .before .child-touched .ensures) in
-      ⊎-elim
-      (λ w. rw (w .6, w .7, w .8) (omega arith, Trees.fresh-child inv less is own old left at (test ∙ w .0 .taken) (w .2 .ensures) (w .5 .ensures)))
-      (⊎-elim
-      (λ w. rw (w .2, w .3, w .4) (omega arith, Trees.old-child inv less is own old left at (test ∙ w .0 .left) (w .1 .taken)))
-      (λ w. rw (w .2, w .3, w .4) (omega arith, Trees.dead-child inv less is own old left at (test ∙ w .0 .left) (w .1 .left))))
-      (c .if2 .came)
-
-  take-requires : N lts.Need-take-requires
-  take-requires c κs = let l = c .before .before in let a = l .before .before .before .before .before .before .before .before in
-      (a .pre .1 .1, Trees.node-fits (a .pre .1 .2) (l .before .before .if1 .left) (l .loop .inv .1) (a .pre .1 .3) (omega arith) (l .loop .inv .0))
-
-  same-length-2 : N lts.Need-same-length-2
-  same-length-2 c = c .before .before .take .kept .1 .0 ∙ Taken.same-length (c .before .before .before .before .before .loop .inv .1 .took)
+  add-result : N lts.Need-add-result
+  add-result c = let a = c .before .before .before .before .before .before .before .before .before .before .before in omega (arith, c .whole .ensures .most, a .pre .1 .0 .spans, Taken.count-small (a .args .base) (a .args .c + 1) (a .pre .1 .0 .width) (fits a))
 
   returns-2 : N lts.Need-returns-2
-  returns-2 c = let l = c .before .before .before .before .before in let a = l .before .before .before .before .before .before .before .before in
-      Trees.node (a .pre .1 .2) (l .before .before .if1 .left) (l .loop .inv .1) (omega arith) (l .loop .inv .0) (c .before .before .take .ensures)
+  returns-2 c = Trees.counted (pow-pos _) _ _ _ _ _ _ (rw (c .before .before .before .before .start-of .ensures) at (c .before .before .before .if2 .taken)) (sym (c .before .if3 .taken) ∙ c .before .before .all-written .ensures) (c .whole .ensures .is)
+
+  span-requires : N lts.Need-span-requires
+  span-requires c κs = lower (c .before .before .before .before .before .before .before .before .pre .1 .0)
+
+  loop-holds : N lts.Need-loop-holds
+  loop-holds c = (omega arith, refl, Trees.start)
+
+  mul-first : N lts.Need-mul-first
+  mul-first c = omega (arith, mul-le-mul (c .loop-test .taken) (c .before .before .before .span .ensures .high))
+
+  part-requires : N lts.Need-part-requires
+  part-requires c κs = (omega (arith, c .before .before .before .before .before .span .ensures .high), omega (arith, c .before .before .before .before .width .ensures .most))
+
+  child-touched-requires : N lts.Need-child-touched-requires
+  child-touched-requires c κs = let a = c .before .before .before .before .before .before .before .before .before .before .before .before .before .before .before .before .before in
+      (lower (a .pre .1 .0), λ none. omega (arith, ltb-false (a .args .n) (a .args .o) none, c .before .before .before .before .minus .ensures, c .before .before .before .minus2 .ensures))
+
+  build-fresh-requires : N lts.Need-build-fresh-requires
+  build-fresh-requires c κs = let l = c .before .before .before .before .before .before .before .before .before .before in let a = c .before .before .before .before .before .before .before .before .before .before .before .before .before .before .before .before .before .before .before .before .before in
+      let fits = Trees.child-fits (a .pre .1 .3) (c .before .before .before .before .before .before .before .before .before .before .before .before .before .before .before .if1 .left) (l .loop .inv .2) (a .pre .1 .4) (omega (arith, c .before .before .before .before .before .before .before .before .before .loop-test .taken, l .before .width .ensures .is))
+      (c .before .before .before .before .before .before .before .before .before .before .before .before .span .ensures .is) (c .before .before .before .before .before .before .part .ensures) (c .before .before .before .before .before .link-on .ensures) (c .before .before .before .before .before .before .before .before .minus .ensures) (c .before .before .before .before .before .before .before .minus2 .ensures) (c .before .before .before .before .block-of .ensures) in (
+        omega (arith, a .pre .0, c .before .before .before .before .before .before .before .before .before .before .before .before .before .before .before .if1 .left),
+        (
+          lower (a .pre .1 .0),
+          a .pre .1 .1,
+          rw (part-to-end (l .loop .pages) (l .before .width .result), length-drop) (omega (arith, room l)),
+          sym (c .before .before .before .child-touched .ensures) ∙ c .before .before .if4 .taken,
+          fits,
+        ),
+      )
+
+  sub-word : N lts.Need-sub-word
+  sub-word c = Trees.taken-some (pow-pos _) _ _ _ _ _ _ (sym (c .before .before .before .before .before .before .before .before .child-touched .ensures) ∙ c .before .before .before .before .before .before .before .if4 .taken) (c .before .before .before .before .build-fresh .ensures)
+
+  start-of-requires-2 : N lts.Need-start-of-requires-2
+  start-of-requires-2 c κs = let a = c .before .before .before .before .before .before .before .before .before .before .before .before .before .before .before .before .before .before .before .before .before .before .before .before .before .before .before in (omega (arith, a .pre .1 .0 .width .high), omega (arith, Widths.address (a .pre .1 .0 .width) (Taken.block-small _ (a .pre .1 .1 .blocks) (c .word .ensures))))
+
+  loop-again : N lts.Need-loop-again
+  loop-again c = let j = c .before .before .before .before in let l = c .before .before .before .before .before .before .before .before .before .before .before .before in let less = c .before .before .before .before .before .before .before .before .before .before .before .loop-test .taken in let r = room l in
+      let is = c .before .before .before .before .before .before .before .before .before .before .before .before .before .before .span .ensures .is in let own = c .before .before .before .before .before .before .before .before .part .ensures in let old = c .before .before .before .before .before .before .before .link-on .ensures in
+      let left = c .before .before .before .before .before .before .before .before .before .before .minus .ensures in let at = c .before .before .before .before .before .before .before .before .before .minus2 .ensures in let down = c .before .before .before .before .before .before .block-of .ensures in
+      let test = sym (c .before .before .before .before .before .child-touched .ensures) in let put = c .before .before .put .ensures in
+      let wide = l .before .width .result in let pages = l .loop .pages in let rest = length pages - wide in let fit : l .loop .j < length pages = omega (arith, room l) in let same = Trees.untouched fit in
+      ⊎-elim
+      (λ w. let mine = w .3 .last .1 .1 .1 .1 .1 .0 in let kept = Trees.lent rest pages mine less (omega arith) in
+      rw (w .10, w .12) (
+        omega arith,
+        ap length put ∙ simp length-set (rw (w .11) (same-len-mid wide rest pages mine (w .3 .kept .1 .1 .1 .1 .1 .0)) ∙ l .loop .inv .1),
+        Trees.fresh-child (l .loop .inv .2) is own old left at down kept (test ∙ w .0 .taken) (w .3 .ensures) (w .8 .ensures) (w .9 .ensures) (put ∙ rw (w .11, w .13)),
+      ))
+      (⊎-elim
+      (λ w. rw (w .2, w .4) (
+        omega arith,
+        ap length put ∙ simp length-set (rw (w .3) (l .loop .inv .1)),
+        Trees.old-child (l .loop .inv .2) is own old left at down (test ∙ w .0 .left) same (w .1 .taken) (put ∙ rw (w .3, w .5)),
+      ))
+      (λ w. rw (w .2, w .4) (
+        omega arith,
+        ap length put ∙ simp length-set (rw (w .3) (l .loop .inv .1)),
+        Trees.dead-child (l .loop .inv .2) is own old left at down (test ∙ w .0 .left) same (w .1 .left) (put ∙ rw (w .3, w .5)),
+      )))
+      (j .if4 .came)
+
+  take-requires : N lts.Need-take-requires
+  take-requires c κs = let l = c .before .before .before in let a = c .before .before .before .before .before .before .before .before .before .before .before .before .before .before in
+      (a .pre .1 .0 .width, a .pre .1 .1 .blocks, Trees.node-fits (a .pre .1 .3) (c .before .before .before .before .before .before .before .before .if1 .left) (l .loop .inv .2) (a .pre .1 .4) (omega (arith, l .before .width .ensures .is)) (omega (arith, l .before .width .ensures .is)))
+
+  same-length-2 : N lts.Need-same-length-2
+  same-length-2 c = c .before .before .take .kept .1 .1 .0 ∙ Taken.same-length (c .before .before .before .before .before .before .loop .inv .2 .took)
+
+  same-length-3 : N lts.Need-same-length-3
+  same-length-3 c = c .before .before .before .before .before .before .loop .inv .1
+
+  returns-3 : N lts.Need-returns-3
+  returns-3 c = let l = c .before .before .before .before .before .before in
+      Trees.node (c .before .before .before .before .before .before .before .before .before .before .before .before .before .before .before .before .before .pre .1 .3) (c .before .before .before .before .before .before .before .before .before .before .before .if1 .left) (l .loop .inv .2) (omega (arith, l .before .width .ensures .is)) (omega (arith, l .before .width .ensures .is)) (c .before .before .take .ensures)
 
 pub +build-fresh-spec : {M : Type 1} → statement M
 +build-fresh-spec = close μ λ t. lts.spec (known t) (at t) build-fresh.Post Inv-loop μ-loop
     (take-data-requires t)
     (λ c. search needs)
     (returns t)
+    (start-of-requires t)
+    (add-if2 t)
+    (λ c κs. search needs)
+    (λ c κs. search needs)
+    (add-result t)
+    (returns-2 t)
     (λ c. omega arith)
+    (span-requires t)
     (λ c κs. search needs)
     (loop-holds t)
     (mul-first t)
     (λ c κs. search needs)
     (λ c κs. search needs)
+    (part-requires t)
     (λ c κs. search needs)
     (λ c κs. search needs)
     (child-touched-requires t)
+    (λ c. omega (arith, room t (c .before .before .before .before .before .before .before .before .before)))
+    (λ c. omega (arith, room t (c .before .before .before .before .before .before .before .before .before)))
+    (λ c. omega (arith, room t (c .before .before .before .before .before .before .before .before .before)))
+    (λ c. search needs)
     (build-fresh-requires t)
     (sub-word t)
     (λ c κs. search needs)
-    (mul-page t)
-    (λ c. omega arith)
-    (λ c. search needs)
-    (λ c. omega arith)
-    (λ c. search needs)
+    (start-of-requires-2 t)
+    (λ c κs. search needs)
     (λ c. omega arith)
     (λ c. omega arith)
     (loop-again t)
     (take-requires t)
     (same-length-2 t)
-    (returns-2 t)
+    (same-length-3 t)
+    (returns-3 t)

@@ -1,48 +1,53 @@
 use mathlib.Core.Path.{_≡_, sym, _∙_}
-use mathlib.Core.Logic.{⊎-elim}
-use Prim.Native.Nat.{_+_, _-_, _*_, _≤_, _<_}
+use mathlib.Core.List.{List}
+use Prim.Native.Nat.{ℕ, zero, suc, _*_, _/_, _^_, _<_}
 use native.Mathlib.Omega.{arith}
+use lib.Pow.{pow-pos}
 use borrow.Author.Needs.{needs}
-use lib.ListN.{length}
+use Rattle.model.specs.Change.{levelBelow}
 use Rattle.words.proofs.Off.{past}
-use Rattle.plans.specs.Laying.{onto}
-use Rattle.plans.proofs.Pairs.{length-onto, ontoWord, word-none, word-all, word-hit, word-miss}
+use Rattle.words.proofs.Widths as Widths
+use Rattle.plans.specs.declared.Grown.{Grown}
+use Rattle.plans.specs.Onto.{taking, levelOf, onto, Pointers}
+use Rattle.plans.proofs.Onto.{length-onto, word-root, word-own, word-rest, word-pointer}
 use Rattle.plans.proofs.word_on.Statement.{statement}
 use Rattle.plans.proofs.word_on.Tie as tie
 
--- the word after i pairs
-abbrev Inv-loop : tie.InvT-loop
-Inv-loop board stores at value₀ pairs i₀ value i = (i ≤ pairs) × (value ≡ ontoWord board stores at i)
+-- the pointer to a level is a word
+below-small : {bits : ℕ} {free : List ℕ} {g : Grown} (t : ℕ) → Pointers bits free g → 2 ^ bits * levelBelow (taking free) (g .below) t < 2 ^ 64
+unfolding levelBelow
+below-small zero p = p .below
+below-small (suc t) p = omega (arith, Widths.address (p .width) (p .blocks .small t))
 
-abbrev μ-loop : tie.MeasureT-loop
-μ-loop board stores at value₀ pairs i₀ value i = pairs - i
+returns : tie.Need-returns
+returns c = let a = c .before .before .before .args in
+    past (onto (2 ^ a .bits) (a .free .now) (a .board .now) (a .grown)) (a .at) (omega (arith, length-onto (2 ^ a .bits) (a .free .now) (a .board .now) (a .grown)))
 
-returns : tie.Need-returns Inv-loop μ-loop
-returns c =
-    let a = c .before .before .before .args in
-    past (onto (a .board .now) (a .stores .now)) (a .at) (omega (arith, length-onto (a .board .now) (a .stores .now)))
+returns-2 : tie.Need-returns-2
+returns-2 c = let a = c .before .before .before .before .before .args in
+    word-root (2 ^ a .bits) (a .free .now) (a .board .now) (a .grown) (a .at) (omega arith) (c .if2 .taken)
 
-loop-holds : tie.Need-loop-holds Inv-loop μ-loop
-loop-holds c =
-    let a = c .before .before .before .before .args in
-    (search needs, c .word .ensures ∙ sym (word-none (a .board .now) (a .stores .now) (a .at)))
+level : (c : tie.After-level-of) → let a = c .before .before .before .before .before .before .before .args in c .level-of .result ≡ levelOf (taking (a .free .now)) (a .grown .levels) (a .at / 2 ^ a .bits)
+level c = rw (← (c .before .block-of .ensures)) (c .level-of .ensures)
 
-loop-again : tie.Need-loop-again Inv-loop μ-loop
-loop-again c =
-    let l = c .before .before .before in
-    let a = l .before .before .before .before .before .args in
-    let h : 2 * l .loop .i + 1 < length (a .stores .now) = omega arith in
-    let here = word-hit (a .board .now) (a .stores .now) (a .at) (l .loop .i) h in
-    let away = word-miss (a .board .now) (a .stores .now) (a .at) (l .loop .i) h in
-    (search needs, ⊎-elim (λ w. w .2 ∙ sym (here (omega arith) (w .0 .taken))) (λ w. w .1 ∙ l .loop .inv .1 ∙ sym (away (w .0 .left))) (c .if2 .came))
+returns-3 : tie.Need-returns-3
+returns-3 c = let a = c .before .before .before .before .before .before .before .before .before .args in let v = c .before .before in
+    c .word .ensures ∙ word-own (2 ^ a .bits) (a .free .now) (a .board .now) (a .grown) (a .at) (omega arith) (pow-pos (a .bits)) (c .before .before .before .before .if2 .left) (level v) (c .before .if3 .taken)
 
-returns-2 : tie.Need-returns-2 Inv-loop μ-loop
-returns-2 c =
-    let l = c .before in
-    let a = l .before .before .before .before .before .args in
-    l .loop .inv .1 ∙ word-all (a .board .now) (a .stores .now) (a .at) (l .loop .i) (omega arith)
+returns-4 : tie.Need-returns-4
+returns-4 c = let a = c .before .before .before .before .before .before .before .before .before .before .args in let v = c .before .before .before in
+    word-rest (2 ^ a .bits) (a .free .now) (a .board .now) (a .grown) (a .at) (omega arith) (pow-pos (a .bits)) (c .before .before .before .before .before .if2 .left) (level v) (c .before .before .if3 .left)
+    (λ e. c .if4 .taken (c .before .low-of .ensures ∙ e))
+
+start-of-requires : tie.Need-start-of-requires
+start-of-requires c κs = (search needs, rw (c .level-below .ensures) (below-small _ (c .before .before .before .before .before .before .before .before .before .before .before .pre)))
+
+returns-5 : tie.Need-returns-5
+returns-5 c = let a = c .before .before .before .before .before .before .before .before .before .before .before .before .args in let v = c .before .before .before .before .before in
+    c .start-of .ensures ∙ rw (c .before .level-below .ensures) (
+    word-pointer (2 ^ a .bits) (a .free .now) (a .board .now) (a .grown) (a .at) (omega arith) (pow-pos (a .bits)) (c .before .before .before .before .before .before .before .if2 .left) (level v) (c .before .before .before .before .if3 .left)
+    (sym (c .before .before .before .low-of .ensures) ∙ c .before .before .if4 .left))
 
 pub word-on-spec : {M : Type 1} → statement M
-word-on-spec =
-    tie.close (tie.spec Inv-loop μ-loop returns (λ c κs. search needs) loop-holds (λ c. search needs) (λ c. search needs) (λ c. search needs)
-    (λ c. search needs) (λ c. search needs) (λ c. search needs) (λ c. search needs) (λ c. search needs) (λ c. search needs) loop-again returns-2)
+word-on-spec = tie.close (tie.spec returns returns-2 (λ c κs. search needs) (λ c κs. search needs) (λ c κs. search needs) returns-3 (λ c κs. search needs) returns-4
+    (λ c. search needs) (λ c κs. search needs) start-of-requires returns-5)

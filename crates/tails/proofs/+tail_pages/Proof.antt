@@ -1,16 +1,20 @@
 -- The measure is the height; the loop has laid the pages under the children below j.
-use mathlib.Core.Path.{refl}
+use mathlib.Core.Path.{_≡_, refl, _∙_}
 use mathlib.Core.Logic.{⊎-elim, inl}
-use Prim.Native.Nat.{ℕ, _-_, _≤_, _<_}
+use Prim.Native.Nat.{ℕ, _+_, _-_, _^_, _≤_, _<_}
 use native.Mathlib.Omega.{arith}
-use native.Mathlib.Nat.{mul-le-mul}
+use native.Mathlib.Nat.{mul-le-mul, mul-le-mul-left}
 use lib.ListN.{length}
+use lib.Pow.{pow-pos}
 use borrow.Author.Needs.{needs}
 use borrow.Fn.Kinds.{In, Out}
 use borrow.Fn.PlainCycle.{Measures, is, falls, and}
+use Rattle.words.proofs.block_of.Reads as block-of-reads
+use Rattle.words.proofs.width.Reads as width-reads
+use Rattle.trees.proofs.Reaching.{lower}
 use Rattle.trees.proofs.span.Reads as span-reads
 use Rattle.model.proofs.Paths.{fresh-quiet}
-use Rattle.plans.specs.Laying.{onto}
+use Rattle.plans.specs.Onto.{onto}
 use Rattle.plans.proofs.link_on.Reads as link-on-reads
 use Rattle.building.proofs.Taken as Taken
 use Rattle.building.proofs.build.Reads as build-reads
@@ -24,7 +28,7 @@ use Rattle.tails.proofs.tail_pages.Kinds as kinds
 use Rattle.tails.proofs.tail_pages.Reads as tail-pages
 
 abbrev μ : Measures 5 kinds.ps ℕ
-μ κs a = a .1 .1 .1 .1 .1 .0
+μ κs a = a .1 .1 .1 .1 .1 .1 .1 .0
 
 abbrev at : ℕ → In 5 kinds.ps
 at t = and 5 kinds.ps (is 5 kinds.ps μ t) tail-pages.Pre
@@ -38,10 +42,14 @@ known t = (
   build-reads.Learnt,
   span-reads.Asked,
   span-reads.Learnt,
+  width-reads.Asked,
+  width-reads.Learnt,
   part-reads.Asked,
   part-reads.Learnt,
   link-on-reads.Asked,
   link-on-reads.Learnt,
+  block-of-reads.Asked,
+  block-of-reads.Learnt,
   minus-reads.Asked,
   minus-reads.Learnt,
   below t,
@@ -49,81 +57,96 @@ known t = (
 )
 
 abbrev Inv-loop : lts.InvT-loop
-Inv-loop board grown free plan₀ base h k n new c s taken₀ j₀ plan taken j =
-    (j ≤ 8) × Children.Paged (onto board grown) free (h - 1) k n new c base j plan₀ plan taken
+Inv-loop bits board grown free plan₀ pages₀ base h k n new c s w taken₀ j₀ plan pages taken j =
+    (j ≤ w) × (length pages ≡ length pages₀) × Children.Paged (2 ^ bits) (onto (2 ^ bits) free board grown) free (h - 1) k n new c base j plan₀ plan taken
 
 abbrev μ-loop : lts.MeasureT-loop
-μ-loop board grown free plan₀ base h k n new c s taken₀ j₀ plan taken j = 8 - j
+μ-loop bits board grown free plan₀ pages₀ base h k n new c s w taken₀ j₀ plan pages taken j = w - j
 
 module _ (t : ℕ) where
   abbrev N : (lts.Claims → In 5 kinds.ps → Out 5 kinds.ps kinds.r → lts.InvT-loop → lts.MeasureT-loop → Type 0) → Type 0
   N F = F (known t) (at t) tail-pages.Post Inv-loop μ-loop
 
   build-requires : N lts.Need-build-requires
-  build-requires c κs = let s = c .before .before .before .before .before .before .before in let a = s .args in (
+  build-requires c κs = let s = c .before .before .before .before .before .before .before .before in let a = s .args in (
     s .pre .1 .0,
     s .pre .1 .1,
-    omega (
-      arith,
-      s .pre .1 .2,
-      Children.need-dead (a .h) (a .n) (length (a .new .now)) (c .before .if1 .taken),
-      fresh-quiet 8 (onto (a .board .now) (a .grown .now)) (a .h) 0 0 0 (length (a .new .now)) (inl refl),
-    ),
+    s .pre .1 .2,
+    rw (fresh-quiet (2 ^ a .bits) (onto (2 ^ a .bits) (a .free .now) (a .board .now) (a .grown)) (a .h) 0 0 0 (length (a .new .now)) (inl refl), ← Children.need-dead (2 ^ a .bits) (a .h) (a .n) (length (a .new .now)) (c .before .before .if1 .taken)) (s .pre .1 .3),
   )
 
   returns : N lts.Need-returns
-  returns c = let u = c .before .before .before .before in let a = u .before .before .before .before .before .before .args in
-      Children.took-dead (onto (a .board .now) (a .grown .now)) (a .free .now) (a .h) (a .k) (a .n) (a .new .now) (u .if1 .taken) (c .before .before .build .ensures)
+  returns c = let u = c .before .before .before .before .before .before .before in let a = u .before .before .before .before .before .before .args in
+      Children.took-dead (2 ^ a .bits) (onto (2 ^ a .bits) (a .free .now) (a .board .now) (a .grown)) (a .free .now) (a .h) (a .k) (a .n) (a .new .now) (u .if1 .taken) (c .before .before .before .before .build .ensures)
 
   returns-2 : N lts.Need-returns-2
   returns-2 c = let a = c .before .before .before .before .before .before .before .args in
-      Children.took-leaf (onto (a .board .now) (a .grown .now)) (a .free .now) (a .h) (a .k) (a .n) (a .new .now) (c .if2 .taken) (c .before .if1 .left)
+      Children.took-leaf (2 ^ a .bits) (onto (2 ^ a .bits) (a .free .now) (a .board .now) (a .grown)) (a .free .now) (a .h) (a .k) (a .n) (a .new .now) (c .if2 .taken) (c .before .if1 .left)
+
+  span-requires : N lts.Need-span-requires
+  span-requires c κs = lower (c .before .before .before .before .before .before .before .pre .1 .0)
 
   loop-holds : N lts.Need-loop-holds
-  loop-holds c = (omega arith, Children.pages-start)
+  loop-holds c = (omega arith, refl, Children.pages-start (pow-pos _))
+
+  part-requires : N lts.Need-part-requires
+  part-requires c κs = (omega (arith, c .before .before .before .span .ensures .high), omega (arith, c .before .before .width .ensures .most))
 
   mul-minus : N lts.Need-mul-minus
-  mul-minus c = omega (arith, mul-le-mul (c .before .before .before .before .loop-test .taken) (c .before .before .before .before .before .before .span .ensures .high))
+  mul-minus c = omega (arith, mul-le-mul (c .before .before .before .before .before .before .loop-test .taken) (c .before .before .before .before .before .before .before .before .before .span .ensures .high))
 
   tail-pages-requires : N lts.Need-tail-pages-requires
-  tail-pages-requires c κs = let u = c .before .before .before .before in let l = u .before .before in let v = l .before .before in
-      let s = v .before .before .before .before .before .before .before in let a = s .args in
-      let pages = Children.pages-room (l .loop .inv .1) (l .before .span .ensures .is) (u .part .ensures) (u .before .loop-test .taken) (c .minus .ensures) in
-      let need = Children.need-tree (a .h) (a .n) (length (a .new .now)) (v .if2 .left) (v .before .if1 .left) in
-      (omega (arith, s .pre .0), (omega (arith, s .pre .1 .0), s .pre .1 .1, omega (arith, s .pre .1 .2, pages, need)))
+  tail-pages-requires c κs = let u = c .before .before .before .before .before .before in let l = u .before .before in let v = l .before .before .before in
+      let s = v .before .before .before .before .before .before .before in let a = s .args in let W = 2 ^ a .bits in
+      let fits = Children.pages-room (pow-pos (a .bits)) (l .loop .inv .2) (l .before .before .span .ensures .is) (u .part .ensures) (omega (arith, u .before .loop-test .taken, l .before .width .ensures .is)) (c .minus .ensures) in
+      let need = Children.need-tree W (a .h) (a .n) (length (a .new .now)) (v .if2 .left) (v .before .if1 .left) in
+      let low : a .h - 1 ≤ a .h = omega arith in
+      (omega (arith, s .pre .0), (lower (s .pre .1 .0), s .pre .1 .1, omega (arith, s .pre .1 .2, l .loop .inv .1, mul-le-mul-left W low), omega (arith, mul-le-mul-left W fits, rw need at (s .pre .1 .3))))
 
   loop-again : N lts.Need-loop-again
-  loop-again c = let l = c .before .before .before in let size = l .before .span .ensures .is in let own = c .before .part .ensures in
+  loop-again c = let l = c .before .before .before in let size = l .before .before .span .ensures .is in let own = c .before .part .ensures in
+      let pos = pow-pos (l .before .before .before .before .before .before .before .before .before .before .args .bits) in
       ⊎-elim
-      (λ w. rw (w .7, w .8) (omega arith, Children.pages-step (l .loop .inv .1) size own (w .1 .ensures) (w .3 .ensures) (w .4 .ensures)))
-      (λ w. rw (w .1, w .2) (omega arith, Children.pages-skip (l .loop .inv .1) size own (w .0 .left)))
+      (λ w. rw (w .11, w .12, w .13) (
+        omega arith,
+        w .6 .kept .1 .1 .1 .1 .1 .0 ∙ l .loop .inv .1,
+        Children.pages-step pos (l .loop .inv .2) size own (w .1 .ensures) (w .4 .ensures) (w .5 .ensures) (w .6 .ensures),
+      ))
+      (λ w. rw (w .1, w .2, w .3) (omega arith, l .loop .inv .1, Children.pages-skip pos (l .loop .inv .2) size own (w .0 .left)))
       (c .if3 .came)
 
-  same-length-2 : N lts.Need-same-length-2
-  same-length-2 c = Taken.same-length (c .before .loop .inv .1 .took)
+  same-length-3 : N lts.Need-same-length-3
+  same-length-3 c = Taken.same-length (c .before .loop .inv .2 .took)
+
+  same-length-4 : N lts.Need-same-length-4
+  same-length-4 c = c .before .loop .inv .1
 
   returns-3 : N lts.Need-returns-3
-  returns-3 c = let v = c .before .before .before in let a = v .before .before .before .before .before .before .before .args in
-      Children.took-tree (onto (a .board .now) (a .grown .now)) (a .free .now) (a .h) (a .k) (a .n) (a .new .now)
-      (v .if2 .left) (v .before .if1 .left) (omega arith) (c .before .loop .inv .1)
+  returns-3 c = let l = c .before in let v = l .before .before .before in let a = v .before .before .before .before .before .before .before .args in
+      Children.took-tree (2 ^ a .bits) (onto (2 ^ a .bits) (a .free .now) (a .board .now) (a .grown)) (a .free .now) (a .h) (a .k) (a .n) (a .new .now)
+      (v .if2 .left) (v .before .if1 .left) (omega (arith, l .before .width .ensures .is)) (l .loop .inv .2)
 
 pub +tail-pages-spec : {M : Type 1} → statement M
 +tail-pages-spec = close μ λ t. lts.spec (known t) (at t) tail-pages.Post Inv-loop μ-loop
     (build-requires t)
     (λ c. search needs)
+    (λ c. search needs)
     (returns t)
     (returns-2 t)
     (λ c. omega arith)
+    (span-requires t)
     (λ c κs. search needs)
     (loop-holds t)
-    (λ c κs. search needs)
+    (part-requires t)
     (λ c κs. search needs)
     (λ c. omega arith)
+    (λ c κs. search needs)
     (mul-minus t)
     (λ c κs. search needs)
     (tail-pages-requires t)
     (λ c. omega arith)
     (λ c. omega arith)
     (loop-again t)
-    (same-length-2 t)
+    (same-length-3 t)
+    (same-length-4 t)
     (returns-3 t)

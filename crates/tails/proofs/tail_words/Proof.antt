@@ -1,30 +1,44 @@
 use mathlib.Core.Logic.{⊎-elim}
-use Prim.Native.Nat.{_-_, _≤_}
+use Prim.Native.Nat.{_-_, _^_, _≤_}
 use native.Mathlib.Omega.{arith}
+use lib.Pow.{pow-pos}
 use borrow.Author.Needs.{needs}
-use Rattle.plans.specs.Laying.{onto}
+use Rattle.words.proofs.Widths as Widths
+use Rattle.plans.specs.Onto.{onto}
 use Rattle.plans.proofs.Laying as Laying
 use Rattle.tails.proofs.TailStores.{Below, none, skip, one-more, all}
 use Rattle.tails.proofs.tail_words.Statement.{statement}
 use Rattle.tails.proofs.tail_words.Tie as tie
 
 abbrev Inv-loop : tie.InvT-loop
-Inv-loop board grown plan₀ p k n new q₀ j₀ plan q j = (j ≤ 8) × Below (onto board grown) k n new plan₀ p j plan q
+Inv-loop bits board grown free plan₀ p k n l new w to q₀ j₀ plan q j = (j ≤ w) × Below (2 ^ bits) (onto (2 ^ bits) free board grown) k n l new plan₀ p j plan q
 
 abbrev μ-loop : tie.MeasureT-loop
-μ-loop board grown plan₀ p k n new q₀ j₀ plan q j = 8 - j
+μ-loop bits board grown free plan₀ p k n l new w to q₀ j₀ plan q j = w - j
+
+start-of-requires : tie.Need-start-of-requires Inv-loop μ-loop
+start-of-requires c κs = let s = c .before .before .before .before .before in (search needs, omega (arith, s .pre .1, Widths.least (s .pre .0 .width)))
 
 loop-holds : tie.Need-loop-holds Inv-loop μ-loop
 loop-holds c = (omega arith, none)
 
+part-length-requires : tie.Need-part-length-requires Inv-loop μ-loop
+part-length-requires c κs = (omega arith, omega (arith, c .before .before .before .width .ensures .most))
+
+add-pair : tie.Need-add-pair Inv-loop μ-loop
+add-pair c = omega (arith, c .before .before .before .before .before .before .before .before .before .before .before .before .pre .1, c .before .before .before .before .before .before .start-of .ensures, c .before .before .before .before .before .before .before .width .ensures .is)
+
+spliced-requires : tie.Need-spliced-requires Inv-loop μ-loop
+spliced-requires c κs = omega (arith, c .before .before .before .before .before .before .before .width .ensures .most)
+
 loop-again : tie.Need-loop-again Inv-loop μ-loop
 loop-again c =
     let l = c .before .before .before in
-    let there = l .before .before .before .before .before .pre .1 in (
+    let s = l .before .before .before .before .before .before .before in (
       omega arith,
       ⊎-elim
-          (λ w. rw (w .7, w .8) (one-more (l .loop .inv .1) (c .before .part .ensures) (w .0 .taken) there (w .1 .ensures) (w .3 .ensures) (w .4 .ensures)))
-          (λ w. rw (w .1, w .2) (skip (l .loop .inv .1) (c .before .part .ensures) (w .0 .left)))
+          (λ w. rw (w .7, w .8) (one-more (l .loop .inv .1) (c .before .part-length .ensures) (pow-pos (s .args .bits)) (w .0 .taken) (s .pre .2) (w .1 .ensures) (w .3 .ensures) (w .4 .ensures) (omega (arith, l .before .start-of .ensures))))
+          (λ w. rw (w .1, w .2) (skip (l .loop .inv .1) (c .before .part-length .ensures) (w .0 .left)))
           (c .if1 .came),
     )
 
@@ -32,7 +46,7 @@ same-length : tie.Need-same-length Inv-loop μ-loop
 same-length c = Laying.same-length (c .before .loop .inv .1 .stores)
 
 returns : tie.Need-returns Inv-loop μ-loop
-returns c = all (c .before .loop .inv .1) (omega arith)
+returns c = all (c .before .loop .inv .1) (omega (arith, c .before .before .before .width .ensures .is))
 
 pub tail-words-spec : {M : Type 1} → statement M
 tail-words-spec =
@@ -40,12 +54,13 @@ tail-words-spec =
     (tie.spec
     Inv-loop
     μ-loop
+    (λ c κs. search needs)
+    start-of-requires
     loop-holds
+    part-length-requires
     (λ c κs. search needs)
-    (λ c κs. search needs)
-    (λ c. search needs)
-    (λ c. search needs)
-    (λ c κs. search needs)
+    add-pair
+    spliced-requires
     (λ c κs. search needs)
     (λ c. search needs)
     (λ c. search needs)
