@@ -4,19 +4,22 @@ use mathlib.Core.Logic.{_≢_}
 use mathlib.Core.List.{List, [], _∷_}
 use Prim.Native.Nat.{ℕ, zero, suc, _+_, _-_, _*_, _/_, _%_, _^_, _≤_, _<_}
 use native.Mathlib.Omega.{arith}
-use native.Mathlib.Nat.{zero-add}
+use native.Mathlib.Nat.{zero-add, mul-zero, mul-comm, mul-le-mul-right, div-add-mod'}
 use native.Mathlib.Numerals.{sub-one}
 use lib.ListN.{length, getD}
-use Rattle.model.specs.declared.Inode.{Inode}
 use Rattle.model.specs.Lists.{tabulate}
-use Rattle.model.specs.Layout.{house}
+use Rattle.model.specs.declared.Inode.{Inode}
+use Rattle.model.specs.declared.Kind.{Kind}
+use Rattle.model.specs.declared.Kind.the-variants.{House, Published}
+use Rattle.model.specs.Layout.{Layout, layoutOf}
 use Rattle.model.specs.Board.{trailer, inodeBlock, sizeAddress, root, size}
 use Rattle.model.specs.Store.{store}
 use Rattle.model.specs.Fresh.{Page}
 use Rattle.model.specs.Change.{levelPage, levelBelow, levels, levelTop, growthTo}
 use Rattle.model.proofs.Perform.{length-tabulate}
 use Rattle.plans.specs.Laying.{closing, Laid}
-use Rattle.building.specs.Taking.{taking, Blocks, Took}
+use Rattle.plans.specs.Onto.{taking, Blocks}
+use Rattle.building.specs.Taking.{Took}
 use Rattle.building.proofs.Taken as Taken
 use Rattle.growing.specs.Planned.{PlanLaid, AddressOf, InodeOf}
 use Rattle.growing.proofs.OneStep.{one-step}
@@ -24,78 +27,107 @@ use Rattle.growing.proofs.OneStep.{one-step}
 -- ---- Levels
 
 -- the page of level i over the tree at block k
-abbrev pub levelAt : (ℕ → ℕ) → ℕ → ℕ → Page
-levelAt fresh k i = levelPage 8 (levelBelow fresh k i)
+abbrev pub levelAt : ℕ → (ℕ → ℕ) → ℕ → ℕ → Page
+levelAt W fresh k i = levelPage W (levelBelow fresh k i)
 
-levels-some : (fresh : ℕ → ℕ) (k d : ℕ) → k ≢ 0 → levels 8 fresh k d ≡ tabulate d (levelAt fresh k)
+levels-some : (W : ℕ) (fresh : ℕ → ℕ) (k d : ℕ) → k ≢ 0 → levels W fresh k d ≡ tabulate d (levelAt W fresh k)
 unfolding levels
-levels-some fresh zero d f = absurd (f refl)
-levels-some fresh (suc k) d f = refl
+levels-some W fresh zero d f = absurd (f refl)
+levels-some W fresh (suc k) d f = refl
 
-module _ {free plan : List ℕ} {k : ℕ} where
+-- the words of a level's page, of which only the first is laid by the code
+level-words : (W below j : ℕ) → getD (W * below ∷ []) j 0 ≡ levelPage W below j
+unfolding levelPage
+level-words W below zero = refl
+level-words W below (suc j) = refl
+
+module _ {W : ℕ} {free plan : List ℕ} {k : ℕ} where
   -- a null root has none
-  pub null : (d : ℕ) → k ≡ 0 → Took free plan 0 0 (levels 8 (taking free) k d) plan 0
+  pub null : (d : ℕ) → k ≡ 0 → Took W free plan 0 0 (levels W (taking free) k d) plan 0
   unfolding levels
   null d e = rw e Taken.none
 
-  pub no-levels : (d : ℕ) → k ≢ 0 → d ≡ 0 → Took free plan 0 0 (levels 8 (taking free) k d) plan 0
+  pub no-levels : (d : ℕ) → k ≢ 0 → d ≡ 0 → Took W free plan 0 0 (levels W (taking free) k d) plan 0
   unfolding tabulate
-  no-levels d f e = rw (levels-some (taking free) k d f, e) Taken.none
+  no-levels d f e = rw (levels-some W (taking free) k d f, e) Taken.none
 
   -- the last level, over d - 1: *its first pointer the old tree and the rest 0*
-  pub last-level : {plan₁ plan₂ : List ℕ} (d : ℕ) {t below c : ℕ} → k ≢ 0 → d ≢ 0 → Took free plan 0 0 (levels 8 (taking free) k (d - 1)) plan₁ t
-      → below ≡ levelBelow (taking free) k t → Took free plan₁ 0 t ((λ j. getD (8 * below ∷ 0 ∷ 0 ∷ 0 ∷ 0 ∷ 0 ∷ 0 ∷ 0 ∷ []) j 0) ∷ []) plan₂ c
-      → Took free plan 0 0 (levels 8 (taking free) k d) plan₂ c
-  unfolding levelPage tabulate
-  last-level zero f g l eb u = absurd (g refl)
-  last-level {plan₁} (suc d) {t} {below} f g l eb u =
-      let l′ : Took free plan 0 0 (tabulate d (levelAt (taking free) k)) plan₁ t = rw (sub-one, levels-some (taking free) k d f) at l in
-      let et : t ≡ d = omega (arith, l′ .next, length-tabulate d (levelAt (taking free) k)) in
-      let words : 8 * below ∷ 0 ∷ 0 ∷ 0 ∷ 0 ∷ 0 ∷ 0 ∷ 0 ∷ [] ≡ tabulate 8 (levelAt (taking free) k d) = rw (eb, et) in
-      rw (levels-some (taking free) k (suc d) f) (Taken.more l′ (Taken.as-words {p = levelAt (taking free) k d} words u))
+  pub last-level : {plan₁ plan₂ : List ℕ} (d : ℕ) {t below c v : ℕ} → k ≢ 0 → d ≢ 0 → Took W free plan 0 0 (levels W (taking free) k (d - 1)) plan₁ t
+      → below ≡ levelBelow (taking free) k t → v ≡ W * below → Took W free plan₁ 0 t ((λ j. getD (v ∷ []) j 0) ∷ []) plan₂ c
+      → Took W free plan 0 0 (levels W (taking free) k d) plan₂ c
+  unfolding tabulate
+  last-level zero f g l eb ev u = absurd (g refl)
+  last-level {plan₁} (suc d) {t} {below} {v = v} f g l eb ev u =
+      let l′ : Took W free plan 0 0 (tabulate d (levelAt W (taking free) k)) plan₁ t = rw (sub-one, levels-some W (taking free) k d f) at l in
+      let et : t ≡ d = omega (arith, l′ .next, length-tabulate d (levelAt W (taking free) k)) in
+      let words : (j : ℕ) → j < W → getD (v ∷ []) j 0 ≡ levelAt W (taking free) k d j = λ j m. rw (ev, eb, et) (level-words W (levelBelow (taking free) k d) j) in
+      rw (levels-some W (taking free) k (suc d) f) (Taken.more l′ (Taken.by-words (v ∷ []) {p = levelAt W (taking free) k d} words u))
 
 -- at most one for each of d levels
-pub levels-most : (fresh : ℕ → ℕ) (k d : ℕ) → length (levels 8 fresh k d) ≤ d
+pub levels-most : (W : ℕ) (fresh : ℕ → ℕ) (k d : ℕ) → length (levels W fresh k d) ≤ d
 unfolding levels
-levels-most fresh zero d = omega arith
-levels-most fresh (suc k) d = omega (arith, length-tabulate d (levelAt fresh (suc k)))
+levels-most W fresh zero d = omega arith
+levels-most W fresh (suc k) d = omega (arith, length-tabulate d (levelAt W fresh (suc k)))
 
-pub few-levels : {free plan plan′ : List ℕ} (k d : ℕ) {t : ℕ} → Took free plan 0 0 (levels 8 (taking free) k d) plan′ t → t ≤ d
-few-levels {free} k d t = omega (arith, t .next, levels-most (taking free) k d)
+pub few-levels : {W : ℕ} {free plan plan′ : List ℕ} (k d : ℕ) {t : ℕ} → Took W free plan 0 0 (levels W (taking free) k d) plan′ t → t ≤ d
+few-levels {W} {free} k d t = omega (arith, t .next, levels-most W (taking free) k d)
 
 -- ---- The block at the top
 
-pub below-small : {free : List ℕ} {k v : ℕ} (t : ℕ) → Blocks free → k < 2 ^ 61 → v ≡ levelBelow (taking free) k t → v < 2 ^ 61
+-- its address is a word
+pub below-small : {W : ℕ} {free : List ℕ} {v : ℕ} (k t : ℕ) → W ≤ 512 → Blocks free → W * k < 2 ^ 64 → v ≡ levelBelow (taking free) k t → W * v < 2 ^ 64
 unfolding levelBelow
-below-small zero b l e = rw e l
-below-small (suc t) b l e = rw e (b .small t)
+below-small k zero w b l e = rw e l
+below-small {W} {free} k (suc t) w b l e = rw e (omega (arith, mul-le-mul-right (taking free t) w, b .small t))
+
+-- and there is room for the height: where the root is over no level, the height is the root's own
+pub root-room : {W r h v : ℕ} {free : List ℕ} → W ≤ 512 → Blocks free → r < 2 ^ 64 → h < 8 → (d : ℕ) → d ≡ h - r % W → r % W ≤ h → v ≡ levelBelow (taking free) (r / W) d → W * v + h < 2 ^ 64
+unfolding levelBelow
+root-room {W} {r} wide b small low zero ed least e = rw e (omega (arith, ed, div-add-mod' r W, mul-comm W (r / W)))
+root-room {W} {free = free} wide b small low (suc d) ed least e = rw e (omega (arith, mul-le-mul-right (taking free d) wide, b .small d))
 
 -- the root word of a null tree, and of another
-pub null-root : (fresh : ℕ → ℕ) (k d h : ℕ) → k ≡ 0 → h ≡ 8 * levelTop fresh k d + h
+pub null-root : (W : ℕ) (fresh : ℕ → ℕ) (k d h : ℕ) → k ≡ 0 → h ≡ W * levelTop fresh k d + h
 unfolding levelTop
-null-root fresh zero d h e = omega arith
-null-root fresh (suc k) d h e = absurd (omega arith)
+null-root W fresh zero d h e = omega (arith, mul-zero W)
+null-root W fresh (suc k) d h e = absurd (omega arith)
 
-pub top-root : {v : ℕ} (fresh : ℕ → ℕ) (k d h : ℕ) → k ≢ 0 → v ≡ levelBelow fresh k d → 8 * v + h ≡ 8 * levelTop fresh k d + h
+pub top-root : {v x : ℕ} (W : ℕ) (fresh : ℕ → ℕ) (k d h : ℕ) → k ≢ 0 → v ≡ levelBelow fresh k d → x ≡ W * v → x + h ≡ W * levelTop fresh k d + h
 unfolding levelTop
-top-root fresh zero d h f e = absurd (f refl)
-top-root fresh (suc k) d h f e = rw e
+top-root W fresh zero d h f e ex = absurd (f refl)
+top-root W fresh (suc k) d h f e ex = rw (ex, e)
 
 -- ---- The plan
 
 -- the levels were laid, then the commit of the root word v
-pub growth-laid : {free slice slice₁ slice₂ : List ℕ} {t v p : ℕ} (n : Inode) (h : ℕ)
-    → Took free slice 0 0 (levels 8 (taking free) (n .root / 8) (h - n .root % 8)) slice₁ t → v ≡ 8 * levelTop (taking free) (n .root / 8) (h - n .root % 8) + h
-    → Laid slice₁ (8 * t) (closing (8 * t - 0) (store (n .at) v)) slice₂ p
-    → PlanLaid slice 0 (growthTo house (taking free) n h) slice₂ (record { pairs = p; taken = t })
+pub growth-laid : (g : Layout) {free slice slice₁ slice₂ : List ℕ} {t v p : ℕ} (n : Inode) (h : ℕ)
+    → Took (g .words) free slice 0 0 (levels (g .words) (taking free) (n .root / g .words) (h - n .root % g .words)) slice₁ t
+    → v ≡ g .words * levelTop (taking free) (n .root / g .words) (h - n .root % g .words) + h
+    → Laid slice₁ (g .words * t) (closing (g .words * t - 0) (store (n .at) v)) slice₂ p
+    → PlanLaid slice 0 (growthTo g (taking free) n h) slice₂ (record { pairs = p; taken = t })
 unfolding growthTo
-growth-laid {free} {t = t} {v} n h l ev commit =
-    let all : length (levels 8 (taking free) (n .root / 8) (h - n .root % 8)) ≡ t = omega (arith, l .next) in
-    rw (← ev, all) (one-step (n .at) v t (rw (zero-add (8 * t)) at (Taken.laid-pages l)) commit refl)
+growth-laid g {free} {t = t} {v} n h l ev commit =
+    let W : ℕ = g .words in
+    let all : length (levels W (taking free) (n .root / W) (h - n .root % W)) ≡ t = omega (arith, l .next) in
+    rw (← ev, all) (one-step (n .at) v t (rw (mul-zero W, zero-add (W * t)) at (Taken.laid-pages l)) commit refl)
 
 -- ---- The inode
 
-pub inode-is : {b : List ℕ} {f w a r s : ℕ} → w ≡ trailer house b 0 → AddressOf b f a → r ≡ getD b a 0 → s ≡ getD b (a + 1) 0
-    → InodeOf b f (record { pointer = 8 * (w / 8) + f / 4; at = a; root = r; size = s })
+-- the inodes of a leaf have addresses
+pub place : (kind : Kind) (p f : ℕ) → p < 2 ^ 64 → layoutOf kind .words * (p / layoutOf kind .words) + (2 * (f % layoutOf kind .inodes) + 1) < 2 ^ 64
+place House p f l = omega arith
+place Published p f l = omega arith
+
+pub few-inodes : (kind : Kind) (f : ℕ) → f % layoutOf kind .inodes < 32
+few-inodes House f = omega arith
+few-inodes Published f = omega arith
+
+-- the inode pointer has an address
+pub pointer-room : (kind : Kind) (w f : ℕ) → w < 2 ^ 64 → f < 32 → layoutOf kind .words * (w / layoutOf kind .words) + f / layoutOf kind .inodes < 2 ^ 64
+pointer-room House w f l m = omega arith
+pointer-room Published w f l m = omega arith
+
+pub inode-is : {g : Layout} {b : List ℕ} {f w p a r s : ℕ} → w ≡ trailer g b 0 → p ≡ g .words * (w / g .words) + f / g .inodes → AddressOf g b f a → r ≡ getD b a 0 → s ≡ getD b (a + 1) 0
+    → InodeOf g b f (record { pointer = p; at = a; root = r; size = s })
 unfolding inodeBlock root size sizeAddress
-inode-is ew at er es = record { is = rw (ew, er, es, at .is); small = at .small }
+inode-is ew ep at er es = record { is = rw (ep, ew, er, es, at .is); small = at .small }

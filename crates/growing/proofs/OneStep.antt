@@ -5,7 +5,7 @@ use Prim.Native.Nat.{ℕ, _+_, _-_, _*_, _/_, _%_}
 use native.Mathlib.Omega.{arith}
 use lib.ListN.{length, getD}
 use Rattle.model.specs.Words.{wordOf}
-use Rattle.model.specs.Layout.{house}
+use Rattle.model.specs.Layout.{Layout}
 use Rattle.model.specs.Tree.{seen, span}
 use Rattle.model.specs.Store.{Store, store, laid}
 use Rattle.model.specs.Plan.{step, planEpochs, plan, pairs}
@@ -37,8 +37,8 @@ unfolding wordOf splicedByte seen splicedWord
 whole-word o new x = refl
 
 -- it has no hidden stores
-pub single-laid : (b new : List ℕ) (k o : ℕ) {slice slice′ : List ℕ} {x w : ℕ} → x ≡ getD b (8 * k + o % 64 / 8) 0 → w ≡ wordOf 8 (splicedByte x 8 (o % 8) new 0)
-    → slice′ ≡ laid slice 0 (store (8 * k + o % 64 / 8) w ∷ []) → PlanLaid slice 0 (singleWord house b k o new) slice′ (record { pairs = 1; taken = 0 })
+pub single-laid : (g : Layout) (b new : List ℕ) (k o : ℕ) {slice slice′ : List ℕ} {a x w : ℕ} → a ≡ g .words * k + o % (8 * g .words) / 8 → x ≡ getD b a 0 → w ≡ wordOf 8 (splicedByte x 8 (o % 8) new 0)
+    → slice′ ≡ laid slice 0 (store a w ∷ []) → PlanLaid slice 0 (singleWord g b k o new) slice′ (record { pairs = 1; taken = 0 })
 unfolding singleWord span closing
-single-laid b new k o {x = x} {w = w} ex ew e =
-    rw (← ex, ← (whole-word (o % 8) new x), ← ew) (one-step (8 * k + o % 64 / 8) w 0 Laying.none (Laying.one e) refl)
+single-laid g b new k o {a = a} {x} {w} ea ex ew e =
+    rw (← ea, ← ex, ← (whole-word (o % 8) new x), ← ew) (one-step a w 0 Laying.none (Laying.one e) refl)

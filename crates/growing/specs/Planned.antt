@@ -4,7 +4,7 @@ use mathlib.Core.List.{List}
 use Prim.Native.Nat.{ℕ, _+_, _^_, _<_}
 use lib.ListN.{length}
 use Rattle.model.specs.declared.Inode.{Inode}
-use Rattle.model.specs.Layout.{house}
+use Rattle.model.specs.Layout.{Layout}
 use Rattle.model.specs.Board.{rootAddress, inodeOf}
 use Rattle.model.specs.Store.{laid}
 use Rattle.model.specs.Plan.{Plan, pairs}
@@ -17,11 +17,11 @@ pub record PlanLaid (plan : List ℕ) (p : ℕ) (q : Plan) (plan′ : List ℕ) 
   pub taken : r .taken ≡ q .taken
 
 -- the word where file f's root stands; its size stands in the next
-pub record AddressOf (b : List ℕ) (f r : ℕ) : Type 0 where
-  pub is : r ≡ rootAddress house b f
+pub record AddressOf (g : Layout) (b : List ℕ) (f r : ℕ) : Type 0 where
+  pub is : r ≡ rootAddress g b f
   pub small : r + 1 < 2 ^ 64
 
 -- file f's inode; its size stands in the word after its root
-pub record InodeOf (b : List ℕ) (f : ℕ) (r : Inode) : Type 0 where
-  pub is : r ≡ inodeOf house b f
+pub record InodeOf (g : Layout) (b : List ℕ) (f : ℕ) (r : Inode) : Type 0 where
+  pub is : r ≡ inodeOf g b f
   pub small : r .at + 1 < 2 ^ 64

@@ -5,12 +5,12 @@ use mathlib.Core.List.{List}
 use Prim.Native.Nat.{ℕ, _+_, _%_, _≤_, _<_}
 use native.Mathlib.Omega.{arith}
 use lib.ListN.{getD}
-use lib.Dec.{ltb, lit<}
+use lib.Dec.{ltb}
 use borrow.Author.Tests.{ltb-true, ltb-false}
 use Rattle.model.specs.declared.Inode.{Inode}
-use Rattle.model.specs.Layout.{house}
+use Rattle.model.specs.Layout.{Layout}
 use Rattle.model.specs.Tree.{live, span, least}
-use Rattle.model.specs.Board.{sizeAddress, root, size}
+use Rattle.model.specs.Board.{greatest, sizeAddress, size}
 use Rattle.model.specs.Change.{growing}
 use Rattle.model.proofs.Cases.{true-right}
 use Rattle.model.proofs.Spans.{least-within, least-above}
@@ -18,29 +18,29 @@ use Rattle.model.proofs.Trees.{live-some}
 use Rattle.trees.specs.Trees.{Spanned}
 use Rattle.growing.specs.Planned.{AddressOf}
 
+-- the size stands after the root word
+pub size-is : {g : Layout} {b : List ℕ} {f at s : ℕ} → AddressOf g b f at → s ≡ getD b (at + 1) 0 → s ≡ size g b f
+unfolding size sizeAddress
+size-is {b = b} a es = es ∙ ap (λ (x : ℕ). getD b (x + 1) 0) (a .is)
+
 -- ---- Whether a tree grows
 
--- the size stands after the root word
-pub size-is : {b : List ℕ} {f at s : ℕ} → AddressOf b f at → s ≡ getD b (at + 1) 0 → s ≡ size house b f
-unfolding size sizeAddress
-size-is {b} a es = es ∙ ap (λ (x : ℕ). getD b (x + 1) 0) (a .is)
-
-module _ (n : Inode) (e : ℕ) where
-  pub empty-stays : n .size ≡ 0 → false ≡ growing house n e
+module _ (g : Layout) (n : Inode) (e : ℕ) where
+  pub empty-stays : n .size ≡ 0 → false ≡ growing g n e
   unfolding live
   empty-stays none = rw none
 
-  pub spans-less : {s : ℕ} → (n .size ≡ 0 → ⊥) → Spanned (n .root % 8) s → ltb s e ≡ growing house n e
-  spans-less d sp = rw (live-some (n .size) (omega (arith, d)), sp .is)
+  pub spans-less : {W h s : ℕ} → g .words ≡ W → (n .size ≡ 0 → ⊥) → h ≡ n .root % W → Spanned W h s → ltb s e ≡ growing g n e
+  spans-less is d eh sp = rw (live-some (n .size) (omega (arith, d)), is, ← eh, sp .is)
 
-  past-span : growing house n e ≡ true → span 8 (n .root % 8) < e
-  past-span t = let s : ℕ = span 8 (n .root % 8) in ltb-true s e (true-right (live (n .size)) (ltb s e) t)
+  past-span : growing g n e ≡ true → span (g .words) (n .root % g .words) < e
+  past-span t = let s : ℕ = span (g .words) (n .root % g .words) in ltb-true s e (true-right (live (n .size)) (ltb s e) t)
 
   -- where it does not grow, it spans the write
-  pub spanned : growing house n e ≡ false → 0 < n .size → e ≤ span 8 (n .root % 8)
-  spanned t some = ltb-false (span 8 (n .root % 8)) e (rw (live-some (n .size) some) at t)
+  pub spanned : growing g n e ≡ false → 0 < n .size → e ≤ span (g .words) (n .root % g .words)
+  spanned t some = ltb-false (span (g .words) (n .root % g .words)) e (rw (live-some (n .size) some) at t)
 
   -- the height that is reached is the least one, and higher
-  pub grown-height : {h : ℕ} → growing house n e ≡ true → h ≡ least 8 3 e → e ≤ 32768 → (n .root % 8 ≤ h) × (h ≤ 3)
-  unfolding span
-  grown-height t eh l = rw eh (least-above 8 (lit< tt) 3 e (n .root % 8) l (past-span t), least-within 8 (lit< tt) 3 e)
+  pub grown-height : {h : ℕ} → 0 < g .words → growing g n e ≡ true → h ≡ least (g .words) (g .height) e → e ≤ greatest g → (n .root % g .words ≤ h) × (h ≤ g .height)
+  unfolding greatest
+  grown-height pos t eh l = rw eh (least-above (g .words) pos (g .height) e (n .root % g .words) l (past-span t), least-within (g .words) pos (g .height) e)

@@ -1,34 +1,37 @@
 -- Growth and what follows it: the pairs of both, and the board that the second is planned on.
 use mathlib.Core.Path.{_≡_, refl, sym, ap, _∙_}
 use mathlib.Core.Bool.{Bool, true, false, cond}
-use mathlib.Core.List.{List, [], _∷_, _++_, append-assoc, append-nil}
+use mathlib.Core.List.{List, [], _∷_, _++_, append-assoc}
 use Prim.Native.Nat.{ℕ, zero, suc, _+_, _-_, _*_, _/_, _%_, _^_, _≤_, _<_}
+use native.Mathlib.Nat.{mul-zero, mul-comm, mod-eq-of-lt, mul-add-mod-self-left, div-mul-le-self}
 use native.Mathlib.Omega.{arith}
-use lib.ListN.{length, take, drop, length-append}
-use lib.Seq.{sets-eq, set-out, take-at}
-use lib.Dec.{leb, lit<}
+use lib.ListN.{length, length-append}
+use lib.Dec.{leb}
 use Rattle.model.specs.declared.Inode.{Inode}
-use Rattle.model.specs.Lists.{concat}
-use Rattle.model.specs.Layout.{Layout, house}
-use Rattle.model.specs.Tree.{span, least}
-use Rattle.model.specs.Board.{root, size}
-use Rattle.model.specs.Store.{Store, store, barrier, performed, fenced, flat, paired, laid}
+use Rattle.model.specs.declared.Kind.{Kind}
+use Rattle.model.specs.Lists.{tabulate, concat}
+use Rattle.model.specs.Layout.{Layout, layoutOf}
+use Rattle.model.specs.Tree.{least}
+use Rattle.model.specs.Board.{greatest}
+use Rattle.model.specs.Store.{Store, store, barrier, performed, fenced, laid}
 use Rattle.model.specs.Plan.{Step, Plan, plan, step, stepEpochs, planEpochs, pairs, afterwards}
 use Rattle.model.specs.Fresh.{Page, stored}
-use Rattle.model.specs.Change.{levels, levelTop, growing, growthTo, growth, grownInode, isTail, emptyTailTo, emptyTail, tail, shadowInside, shadowWithLength, chosenWay, grownPlan}
+use Rattle.model.specs.Change.{levelPage, levelBelow, levels, levelTop, growing, growthTo, growth, grownInode, isTail, emptyTailTo, emptyTail, tail, shadowInside, shadowWithLength, chosenWay, grownPlan}
 use Rattle.model.proofs.Spans.{least-reaches}
-use Rattle.model.proofs.Perform.{length-performed, performed-append, length-stored}
+use Rattle.model.proofs.Perform.{length-tabulate, length-stored}
 use Rattle.model.proofs.Steps.{step-some}
-use Rattle.model.proofs.Epochs.{length-flat, paired-flat}
-use Rattle.plans.specs.Laying.{onto, closing, Laid}
+use Rattle.kinds.proofs.Figures.{fits, words-pos, low-height}
+use Rattle.plans.specs.declared.Grown.{Grown}
+use Rattle.plans.specs.Laying.{closing, Laid}
+use Rattle.plans.specs.Onto.{taking, Blocks, onto, NotGrown}
 use Rattle.plans.proofs.Laying as Laying
-use Rattle.building.specs.Taking.{taking, Blocks}
+use Rattle.plans.proofs.Onto.{onto-none}
 use Rattle.growing.specs.declared.Count.{Count}
 use Rattle.growing.specs.Planned.{PlanLaid}
 use Rattle.growing.proofs.Growth.{levels-most}
 use Rattle.growing.proofs.OneStep.{step-plan}
 use Rattle.ways.specs.Planning.{Ready}
-use Rattle.planning.specs.Asked.{Growable}
+use Rattle.planning.specs.Asked.{Growable, Pages}
 use Rattle.planning.proofs.Growing.{spanned, grown-height}
 
 -- ---- Pairs of two plans
@@ -84,33 +87,29 @@ way-some g fresh b n o new c = by (isTail g b n o) (leb (o + length new) (n .siz
     by false true = omega arith
     by false false = omega arith
 
--- ---- The board with planned stores performed
+-- ---- The board with growth performed
 
--- a barrier stores nothing where the board has no word at its address
-performed-fenced : (b : List ℕ) (es : List (List Store)) → length b < 2 ^ 64 → performed b (fenced es) ≡ performed b (concat es)
-unfolding fenced concat performed barrier store
-performed-fenced b [] l = refl
-performed-fenced b (e ∷ []) l = ap (performed b) (sym (append-nil e))
-performed-fenced b (e ∷ d ∷ es) l =
-    performed-append b e (barrier ∷ fenced (d ∷ es))
-    ∙ ap (λ (x : List ℕ). performed x (fenced (d ∷ es))) (set-out (performed b e) (2 ^ 64 - 1) 0 (omega (arith, length-performed b e)))
-    ∙ performed-fenced (performed b e) (d ∷ es) (omega (arith, length-performed b e))
-    ∙ sym (performed-append b e (concat (d ∷ es)))
+-- the stores of a step
+step-stores : (ss : List Store) (a v : ℕ) → concat (planEpochs (step ss a v ∷ [])) ≡ ss ++ (store a v ∷ [])
+unfolding planEpochs stepEpochs step concat
+step-stores [] a v = refl
+step-stores (s ∷ ss) a v = refl
 
--- pairs laid at the front of a slice that has room for them are what its first words hold
-first-pairs : (slice : List ℕ) (ss : List Store) → 2 * length ss ≤ length slice → paired (take (2 * length ss) (laid slice 0 ss)) ≡ ss
-unfolding laid paired
-first-pairs slice ss l =
-    let rest : List ℕ = drop (0 + length (flat ss)) slice in
-    rw (sets-eq (flat ss) slice 0 (omega (arith, length-flat ss)), take-at (flat ss) rest (2 * length ss) (length-flat ss), ← (append-nil (flat ss)), paired-flat ss []) (append-nil ss)
+-- growth's levels, by how many there are
+levels-all : (W : ℕ) (fresh : ℕ → ℕ) (k d : ℕ) → tabulate (length (levels W fresh k d)) (λ i. levelPage W (levelBelow fresh k i)) ≡ levels W fresh k d
+unfolding levels tabulate
+levels-all W fresh zero d = refl
+levels-all W fresh (suc k) d = ap (λ (m : ℕ). tabulate m (λ i. levelPage W (levelBelow fresh (suc k) i))) (length-tabulate d (λ i. levelPage W (levelBelow fresh (suc k) i)))
 
--- so the first words of such a slice are a plan's stores
-onto-planned : {slice slice′ : List ℕ} {p : Plan} {r : Count} (b : List ℕ) → length b < 2 ^ 64 → 2 * r .pairs ≤ length slice → PlanLaid slice 0 p slice′ r
-    → onto b (take (2 * r .pairs) slice′) ≡ performed b (concat (planEpochs (p .steps)))
-unfolding onto pairs
-onto-planned {slice} {slice′} {p} {r} b small room w =
-    let count : r .pairs ≡ length (pairs p) = omega (arith, w .count) in
-    rw (w .is, count, first-pairs slice (pairs p) (omega (arith, count))) (performed-fenced b (planEpochs (p .steps)) small)
+-- what is planned after growth sees the board with growth's stores performed
+onto-grown : (g : Layout) (b free : List ℕ) (n : Inode) (h : ℕ) {k t v : ℕ} → k ≡ n .root / g .words → t ≡ growthTo g (taking free) n h .taken
+    → v ≡ g .words * levelTop (taking free) (n .root / g .words) (h - n .root % g .words) + h
+    → onto (g .words) free b (record { below = k; levels = t; at = n .at; root = v }) ≡ performed b (concat (planEpochs (growthTo g (taking free) n h .steps)))
+unfolding onto growthTo plan
+onto-grown g b free n h ek et ev =
+    let W : ℕ = g .words in
+    let d : ℕ = h - n .root % W in
+    rw (ek, et, ev, levels-all W (taking free) (n .root / W) d) (ap (performed b) (sym (step-stores (stored W (taking free) (levels W (taking free) (n .root / W) d) 0) (n .at) (W * levelTop (taking free) (n .root / W) d + h))))
 
 -- ---- Growth
 
@@ -125,90 +124,111 @@ one-step-length ss a v c =
     let all = length-append ss (closing (length ss) (store a v)) in
     rw (step-plan ss a v c) (omega (arith, all, end .0), omega (arith, all, end .1))
 
--- how much growth takes: at most three blocks, their stores, a barrier and the root word
-pub record GrowthCount (r : Count) : Type 0 where
-  pub stores : 8 * r .taken < r .pairs
-  pub most : r .pairs ≤ 26
+-- how much growth takes: few blocks, their stores, a barrier and the root word
+pub record GrowthCount (W : ℕ) (r : Count) : Type 0 where
+  pub stores : W * r .taken < r .pairs
+  pub most : r .pairs ≤ W * r .taken + 2
+  pub few : r .taken ≤ 3
 
-growth-count : {slice slice′ : List ℕ} {r : Count} (fresh : ℕ → ℕ) (n : Inode) (h : ℕ) → h ≤ 3 → PlanLaid slice 0 (growthTo house fresh n h) slice′ r → GrowthCount r
+growth-count : (g : Layout) {slice slice′ : List ℕ} {r : Count} (fresh : ℕ → ℕ) (n : Inode) (h : ℕ) → h ≤ 3 → PlanLaid slice 0 (growthTo g fresh n h) slice′ r → GrowthCount (g .words) r
 unfolding growthTo plan
-growth-count {r = r} fresh n h low w =
-    let d : ℕ = h - n .root % 8 in
-    let ps : List Page = levels 8 fresh (n .root / 8) d in
-    let few : length ps ≤ d = levels-most fresh (n .root / 8) d in
+growth-count g {r = r} fresh n h low w =
+    let W : ℕ = g .words in
+    let d : ℕ = h - n .root % W in
+    let ps : List Page = levels W fresh (n .root / W) d in
     let taken : r .taken ≡ length ps = w .taken in
-    let blocks = length-stored 8 fresh ps 0 in
-    let all = one-step-length (stored 8 fresh ps 0) (n .at) (8 * levelTop fresh (n .root / 8) d + h) (length ps) in
-    record { stores = omega (arith, w .count, all .0); most = omega (arith, w .count, all .1) }
+    let blocks = length-stored W fresh ps 0 in
+    let all = one-step-length (stored W fresh ps 0) (n .at) (W * levelTop fresh (n .root / W) d + h) (length ps) in
+    record { stores = rw taken (omega (arith, w .count, all .0)); most = rw taken (omega (arith, w .count, all .1)); few = omega (arith, taken, levels-most W fresh (n .root / W) d) }
 
-growth-some : (fresh : ℕ → ℕ) (n : Inode) (h : ℕ) → 0 < length (growthTo house fresh n h .steps)
+growth-some : (g : Layout) (fresh : ℕ → ℕ) (n : Inode) (h : ℕ) → 0 < length (growthTo g fresh n h .steps)
 unfolding growthTo plan
-growth-some fresh n h = omega arith
+growth-some g fresh n h = omega arith
 
 -- ---- What follows it
 
-module _ {b : List ℕ} {n : Inode} {o : ℕ} {new table : List ℕ} (g : Growable b n o new table) where
+module _ {kind : Kind} {bits : ℕ} {pages b : List ℕ} {n : Inode} {o : ℕ} {new table : List ℕ} (room : Pages kind bits pages) (g : Growable kind b n o new table) where
   abbrev e : ℕ
   e = o + length new
 
-  -- where there is none
-  module _ (t : growing house n e ≡ false) where
-    pub still-ready : Ready n o new table 0 0
-    still-ready = record { blocks = g .blocks; some = g .some; end = g .end; address = g .address; height = g .low; spans = spanned n e t; place = omega arith }
+  abbrev G : Layout
+  G = layoutOf kind
 
-    pub still-laid : {slice slice′ : List ℕ} {r : Count} → PlanLaid slice 0 (chosenWay house (taking table) (onto b []) n o new 0) slice′ r
-        → PlanLaid slice 0 (grownPlan house (taking table) b n o new) slice′ r
-    unfolding onto paired performed plan planEpochs concat growth grownInode grownPlan afterwards
-    still-laid w = rw t w
+  -- where there is none
+  module _ (t : growing G n e ≡ false) {grown : Grown} (none : NotGrown grown) where
+    pub still-ready : Ready kind bits n o new table pages grown 0 0
+    still-ready = record {
+      wide = room .wide;
+      pointers = record { width = room .wide .width; blocks = g .blocks; below = rw (none .null) (omega arith) };
+      room = room .room;
+      some = g .some;
+      end = g .end;
+      address = g .address;
+      height = g .low;
+      spans = spanned G n e t;
+      place = omega arith;
+    }
+
+    pub still-laid : {slice slice′ : List ℕ} {r : Count} → PlanLaid slice (0 + 2 ^ bits * 0) (chosenWay G (taking table) (onto (2 ^ bits) table b grown) n o new 0) slice′ r
+        → PlanLaid slice 0 (grownPlan G (taking table) b n o new) slice′ r
+    unfolding performed plan planEpochs concat growth grownInode grownPlan afterwards
+    still-laid w = rw t (rw (onto-none (2 ^ bits) table b grown none (g .words), mul-zero (2 ^ bits)) at w)
 
   -- where there is
-  module _ (t : growing house n e ≡ true) {h : ℕ} (high : h ≡ least 8 3 e) where
-    grows : growth house (taking table) n e ≡ growthTo house (taking table) n h
+  module _ (t : growing G n e ≡ true) {h : ℕ} (high : h ≡ least (G .words) (G .height) e) where
+    grows : growth G (taking table) n e ≡ growthTo G (taking table) n h
     unfolding growth
     grows = rw (t, high)
 
-    -- what growth asks
-    pub may-grow : Blocks table × (n .root % 8 ≤ h) × (h ≤ 3)
-    may-grow = let reached = grown-height n e t high (g .end) in (g .blocks, reached .0, reached .1)
+    reached : (n .root % G .words ≤ h) × (h ≤ G .height)
+    reached = grown-height G n e (words-pos kind) t high (g .end)
 
-    -- the inode with the grown root v
-    module _ {v : ℕ} (ev : v ≡ 8 * levelTop (taking table) (n .root / 8) (h - n .root % 8) + h) where
+    low : h ≤ 3
+    low = low-height kind h (reached .1)
+
+    -- what growth asks
+    pub may-grow : Blocks table × (n .root % G .words ≤ h) × (h < 8)
+    may-grow = (g .blocks, reached .0, omega (arith, low))
+
+    pub counted : {slice slice′ : List ℕ} {count : Count} → PlanLaid slice 0 (growthTo G (taking table) n h) slice′ count → GrowthCount (2 ^ bits) count
+    counted w = rw (room .wide .is) at (growth-count G (taking table) n h low w)
+
+    -- the root word and its tree's height
+    module _ {v k : ℕ} (ev : v ≡ G .words * levelTop (taking table) (n .root / G .words) (h - n .root % G .words) + h) (ek : k ≡ n .root / G .words) where
+      height-is : v % G .words ≡ h
+      height-is = rw ev (mul-add-mod-self-left (G .words) (levelTop (taking table) (n .root / G .words) (h - n .root % G .words)) h ∙ mod-eq-of-lt (omega (arith, reached .1, fits kind .heights-fit)))
+
       abbrev grownNode : Inode
       grownNode = record { pointer = n .pointer; at = n .at; root = v; size = n .size }
 
-      node-is : grownNode ≡ grownInode house (taking table) n e
+      node-is : grownNode ≡ grownInode G (taking table) n e
       unfolding grownInode
       node-is = rw (ev, high, t)
 
-      height-is : v % 8 ≡ h
-      height-is = omega (arith, may-grow .2)
+      module _ (small : n .root < 2 ^ 64) {slice slice₁ : List ℕ} {count : Count} (w : PlanLaid slice 0 (growthTo G (taking table) n h) slice₁ count) where
+        abbrev after : Grown
+        after = record { below = k; levels = count .taken; at = n .at; root = v }
 
-      pub grown-ready : {base taken : ℕ} → base + 8 * taken ≤ 2 ^ 16 → Ready grownNode o new table base taken
-      unfolding span
-      grown-ready room = record {
-        blocks = g .blocks;
-        some = g .some;
-        end = g .end;
-        address = g .address;
-        height = λ l. rw height-is (may-grow .2);
-        spans = λ l. rw (height-is, high) (least-reaches 8 (lit< tt) 3 e (g .end));
-        place = room;
-      }
+        pub grown-ready : {base : ℕ} → base + 2 ^ bits * count .taken ≤ 2 ^ 16 → Ready kind bits grownNode o new table pages after base (count .taken)
+        unfolding greatest
+        grown-ready place = record {
+          wide = room .wide;
+          pointers = record { width = room .wide .width; blocks = g .blocks; below = rw (← room .wide .is, ek) (omega (arith, div-mul-le-self (n .root) (G .words), mul-comm (G .words) (n .root / G .words))) };
+          room = room .room;
+          some = g .some;
+          end = g .end;
+          address = g .address;
+          height = λ l. rw height-is (reached .1);
+          spans = λ l. rw (height-is, high) (least-reaches (G .words) (words-pos kind) (G .height) e (g .end));
+          place = place;
+        }
 
-      module _ {stores stores′ : List ℕ} {count : Count} (w : PlanLaid stores 0 (growthTo house (taking table) n h) stores′ count) where
-        -- planned in a slice that has room for it, growth is what the slice holds
-        module _ (room : 52 ≤ length stores) where
-          stored-left : onto b (take (2 * count .pairs) stores′) ≡ performed b (concat (planEpochs (growth house (taking table) n e .steps)))
-          stored-left = onto-planned b (g .words) (omega (arith, growth-count (taking table) n h (may-grow .2) w .most)) w ∙ rw grows
-
-          pub grown-laid : {slice slice₁ slice₂ slice₃ : List ℕ} {r₁ r : Count} → PlanLaid slice 0 (growthTo house (taking table) n h) slice₁ r₁
-              → slice₂ ≡ laid slice₁ (count .pairs) (barrier ∷ [])
-              → PlanLaid slice₂ (count .pairs + 1 - 8 * count .taken + 8 * count .taken)
-              (chosenWay house (taking table) (onto b (take (2 * count .pairs) stores′)) grownNode o new (count .taken)) slice₃ r
-              → PlanLaid slice 0 (grownPlan house (taking table) b n o new) slice₃ r
-          unfolding grownPlan
-          grown-laid first fence second = rw grows (both-laid (growth-some (taking table) n h) (way-some house (taking table) _ (grownInode house (taking table) n e) o new _)
-              first (w .count) fence (omega (arith, growth-count (taking table) n h (may-grow .2) w .stores)) (rw (stored-left, node-is, grows, w .taken) at second))
-
-    pub counted : {stores stores′ : List ℕ} {count : Count} → PlanLaid stores 0 (growthTo house (taking table) n h) stores′ count → GrowthCount count
-    counted w = growth-count (taking table) n h (may-grow .2) w
+        pub grown-laid : {slice₂ slice₃ : List ℕ} {r : Count} (base : ℕ) → slice₂ ≡ laid slice₁ (count .pairs) (barrier ∷ []) → base + 2 ^ bits * count .taken ≡ count .pairs + 1
+            → PlanLaid slice₂ (base + 2 ^ bits * count .taken) (chosenWay G (taking table) (onto (2 ^ bits) table b after) grownNode o new (count .taken)) slice₃ r
+            → PlanLaid slice 0 (grownPlan G (taking table) b n o new) slice₃ r
+        unfolding grownPlan
+        grown-laid base fence next second =
+            let seen = onto-grown G b table n h ek (w .taken) ev in
+            let place : base + G .words * growthTo G (taking table) n h .taken ≡ count .pairs + 1 = rw (room .wide .is, ← w .taken) next in
+            rw grows (both-laid (growth-some G (taking table) n h) (way-some G (taking table) _ (grownInode G (taking table) n e) o new _) w (w .count) fence place
+            (rw (← room .wide .is, seen, node-is, w .taken) at second))

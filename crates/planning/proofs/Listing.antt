@@ -12,8 +12,9 @@ use borrow.Author.Tests.{eq-eqb, ne-eqb}
 use Rattle.model.specs.declared.Answer.{Answer}
 use Rattle.model.specs.declared.Answer.the-variants.{Done}
 use Rattle.model.specs.Lists.{consIf, pickFrom}
-use Rattle.model.specs.Layout.{house}
-use Rattle.model.specs.Board.{blockCount, free}
+use Rattle.model.specs.declared.Kind.{Kind}
+use Rattle.model.specs.Layout.{layoutOf}
+use Rattle.model.specs.Board.{greatest, blockCount, free}
 use Rattle.model.specs.Calls.{lowest}
 use Rattle.model.proofs.Cases.{split}
 use Rattle.model.proofs.Tailed.{Zeros, zeros-replicate}
@@ -21,7 +22,8 @@ use Rattle.model.proofs.Census.{free-at}
 use Rattle.surveying.specs.Survey.{spare, Surveyed}
 use Rattle.surveying.proofs.Reached.{pick-next, pick-none}
 use Rattle.surveying.proofs.Surveying.{short, sound, free-spare}
-use Rattle.building.specs.Taking.{taking}
+use Rattle.kinds.proofs.Figures.{words-pos, few as figure}
+use Rattle.plans.specs.Onto.{taking}
 use Rattle.planning.specs.Asked.{Listed, File, Stocked}
 
 -- the blocks from k on that marks have free, of those below top
@@ -82,28 +84,28 @@ then-zeros (x ∷ xs) ys (suc i) z = then-zeros xs ys i z
 zeros-after : (m n : ℕ) → Zeros (drop n (replicate m 0))
 zeros-after m n i = getD-drop n (replicate m 0) i 0 ∙ zeros-replicate m (n + i)
 
-module _ {b m : List ℕ} {r : Answer} {v top : ℕ} (s : Surveyed b r m) (z : r ≡ Done v) (et : top ≡ blockCount house b - 1) where
+module _ (kind : Kind) {b m : List ℕ} {r : Answer} {v top : ℕ} (s : Surveyed (layoutOf kind) b r m) (z : r ≡ Done v) (et : top ≡ blockCount (layoutOf kind) b - 1) where
   -- the board has at most 1,024 blocks
   pub few : top ≤ 1024
-  few = rw et (short b (sound b v (sym (s .answer) ∙ z) .words))
+  few = rw et (short (layoutOf kind) (words-pos kind) (figure kind) b (sound (layoutOf kind) b v (sym (s .answer) ∙ z) .words))
 
   module _ {count : ℕ} {table : List ℕ} (k : Listed m top (replicate 1024 0) count table) where
-    all-listed : pickFrom 1 (top - 1) (spare m) ≡ free house b
-    all-listed = let e : top - 1 ≡ blockCount house b - 2 = omega arith in rw e (free-spare v s z)
+    all-listed : pickFrom 1 (top - 1) (spare m) ≡ free (layoutOf kind) b
+    all-listed = let e : top - 1 ≡ blockCount (layoutOf kind) b - 2 = omega arith in rw e (free-spare (words-pos kind) (figure kind) v s z)
 
     -- the table has the free blocks in order
-    in-order : (i : ℕ) → taking table i ≡ lowest house b i
+    in-order : (i : ℕ) → taking table i ≡ lowest (layoutOf kind) b i
     unfolding taking lowest
-    in-order i = rw (k .is, all-listed) (then-zeros (free house b) (drop count (replicate 1024 0)) i (zeros-after 1024 count))
+    in-order i = rw (k .is, all-listed) (then-zeros (free (layoutOf kind) b) (drop count (replicate 1024 0)) i (zeros-after 1024 count))
 
-    small : (i : ℕ) → lowest house b i < 2 ^ 61
+    small : (i : ℕ) → lowest (layoutOf kind) b i < 2 ^ 54
     unfolding lowest
-    small i = elim (split (length (free house b)) i) [
-      | inl past ↦ rw (List·getD-eq-default (free house b) 0 past) (lit< tt)
-      | inr l ↦ omega (arith, free-at house b i l .1, few)
+    small i = elim (split (length (free (layoutOf kind) b)) i) [
+      | inl past ↦ rw (List·getD-eq-default (free (layoutOf kind) b) 0 past) (lit< tt)
+      | inr l ↦ omega (arith, free-at (layoutOf kind) b i l .1, few)
     ]
 
-    pub stocked : {f o : ℕ} {new : List ℕ} → File b f → 0 < length new → o + length new ≤ 32768 → Stocked b f o new table count
+    pub stocked : {f o : ℕ} {new : List ℕ} → File kind b f → 0 < length new → o + length new ≤ greatest (layoutOf kind) → Stocked kind b f o new table count
     stocked file some end = record {
       asked = record { of = file; some = some; end = end; blocks = record { small = λ i. rw (in-order i) (small i) } };
       lists = in-order;

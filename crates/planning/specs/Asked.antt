@@ -1,46 +1,53 @@
 -- What the functions that plan a write and a length change are asked on.
 use mathlib.Core.Path.{_≡_}
 use mathlib.Core.List.{List, _++_}
-use Prim.Native.Nat.{ℕ, _+_, _-_, _%_, _^_, _≤_, _<_}
+use Prim.Native.Nat.{ℕ, _+_, _-_, _*_, _%_, _^_, _≤_, _<_}
 use lib.ListN.{length, drop}
 use lib.Dec.{T}
 use Rattle.model.specs.declared.Inode.{Inode}
 use Rattle.model.specs.Lists.{pickFrom}
-use Rattle.model.specs.Layout.{house}
-use Rattle.model.specs.Board.{free, accepted}
+use Rattle.model.specs.declared.Kind.{Kind}
+use Rattle.model.specs.Layout.{layoutOf}
+use Rattle.model.specs.Board.{greatest, free, accepted}
 use Rattle.model.specs.Calls.{lowest}
 use Rattle.surveying.specs.Survey.{spare}
-use Rattle.building.specs.Taking.{taking, Blocks}
+use Rattle.kinds.specs.Figures.{Bits}
+use Rattle.plans.specs.Onto.{taking, Blocks}
 
 -- the blocks that marks have free, of those below top, at the front of a table
 pub record Listed (marks : List ℕ) (top : ℕ) (table : List ℕ) (r : ℕ) (table′ : List ℕ) : Type 0 where
   pub count : r ≡ length (pickFrom 1 (top - 1) (spare marks))
   pub is : table′ ≡ pickFrom 1 (top - 1) (spare marks) ++ drop r table
 
+-- there is room for a page on each level of a tree; `bits` is the width
+pub record Pages (kind : Kind) (bits : ℕ) (pages : List ℕ) : Type 0 where
+  pub wide : Bits kind bits
+  pub room : 2 ^ bits * layoutOf kind .height ≤ length pages
+
 -- a file of an accepted board
-pub record File (b : List ℕ) (f : ℕ) : Type 0 where
-  pub board : T (accepted house b)
+pub record File (kind : Kind) (b : List ℕ) (f : ℕ) : Type 0 where
+  pub board : T (accepted (layoutOf kind) b)
   pub file : f < 32
 
 -- A write of at least one byte that ends within bounds, on any board, to the file with inode n: a live root has one of the heights, and the size stands
 -- in the word after it; the board has fewer than 2^64 words; and the table of free blocks
-pub record Growable (b : List ℕ) (n : Inode) (o : ℕ) (new table : List ℕ) : Type 0 where
+pub record Growable (kind : Kind) (b : List ℕ) (n : Inode) (o : ℕ) (new table : List ℕ) : Type 0 where
   pub some : 0 < length new
-  pub end : o + length new ≤ 32768
+  pub end : o + length new ≤ greatest (layoutOf kind)
   pub blocks : Blocks table
   pub words : length b < 2 ^ 64
   pub address : n .at + 1 < 2 ^ 64
-  pub low : 0 < n .size → n .root % 8 ≤ 3
+  pub low : 0 < n .size → n .root % layoutOf kind .words ≤ layoutOf kind .height
 
 -- a write to file f of an accepted board that no refusal up to 6 turns away, and the table of free blocks
-pub record Asked (b : List ℕ) (f o : ℕ) (new table : List ℕ) : Type 0 where
-  pub of : File b f
+pub record Asked (kind : Kind) (b : List ℕ) (f o : ℕ) (new table : List ℕ) : Type 0 where
+  pub of : File kind b f
   pub some : 0 < length new
-  pub end : o + length new ≤ 32768
+  pub end : o + length new ≤ greatest (layoutOf kind)
   pub blocks : Blocks table
 
 -- the table lists the free blocks, and `count` is how many there are
-pub record Stocked (b : List ℕ) (f o : ℕ) (new table : List ℕ) (count : ℕ) : Type 0 where
-  pub asked : Asked b f o new table
-  pub lists : (i : ℕ) → taking table i ≡ lowest house b i
-  pub all : count ≡ length (free house b)
+pub record Stocked (kind : Kind) (b : List ℕ) (f o : ℕ) (new table : List ℕ) (count : ℕ) : Type 0 where
+  pub asked : Asked kind b f o new table
+  pub lists : (i : ℕ) → taking table i ≡ lowest (layoutOf kind) b i
+  pub all : count ≡ length (free (layoutOf kind) b)

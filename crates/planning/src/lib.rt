@@ -1,32 +1,41 @@
-// Plans of writes and length changes, once no refusal up to 6 turns the call away. `free` lists the free blocks.
-use bands::least_height;
+// Plans of writes and length changes, once no refusal up to 6 turns the call away. `free` lists the free blocks; `pages` has room for a page on each level
+// of a tree.
 use growing::Count;
 use growing::grow;
 use growing::grown_root;
 use growing::lent_inode;
 use growing::root_address;
 use growing::single;
+use kinds::height_in;
 use model::Inode;
+use model::Kind;
 use model::WalkEnd;
+use plans::Grown;
 use plans::barrier;
 use plans::commit;
+use plans::not_grown;
 use plans::pair;
-use tails::in_place;
+use tails::clear_in_place;
 use trees::root_walk;
 use trees::span;
 use ways::way;
+use words::block_of;
+use words::low_of;
 use words::put;
+use words::start_of;
 use words::word;
 ghost use mathlib.Core.Path.{_≡_};
-ghost use Prim.Native.Nat.{_≤_};
+ghost use Prim.Native.Nat.{_%_, _≤_, _<_};
 ghost use lib.ListN.{length};
-ghost use Rattle.model.specs.Layout.{house};
+ghost use Rattle.model.specs.Layout.{layoutOf};
+ghost use Rattle.model.specs.Board.{greatest};
 ghost use Rattle.model.specs.Plan.{pairs};
 ghost use Rattle.model.specs.Change.{growing, grownPlan, writePlan, lengthPlan};
+ghost use Rattle.kinds.specs.Figures.{Bits};
 ghost use Rattle.plans.specs.Laying.{Laid};
-ghost use Rattle.building.specs.Taking.{taking};
+ghost use Rattle.plans.specs.Onto.{taking};
 ghost use Rattle.growing.specs.Planned.{PlanLaid};
-ghost use Rattle.planning.specs.Asked.{Listed, File, Growable, Asked};
+ghost use Rattle.planning.specs.Asked.{Listed, File, Growable, Asked, Pages};
 
 // Lists the blocks from 1 to top - 1 that are not marked, at the front of a table. Answers how many there are.
 pub fn list_free(marks: &[u64], top: u64, table: &mut [u64]) -> u64
@@ -46,52 +55,76 @@ pub fn list_free(marks: &[u64], top: u64, table: &mut [u64]) -> u64
 }
 
 // Whether a write that ends at e makes a file's tree grow first.
-fn grows(inode: Inode, e: u64) -> bool
-    ensures { λ r. ⌜ r ≡ growing house inode e ⌝ }
+fn grows(kind: Kind, bits: u64, inode: Inode, e: u64) -> bool
+    requires { ⌜ Bits kind bits × (0 < inode .size → inode .root % layoutOf kind .words ≤ layoutOf kind .height) ⌝ }
+    ensures { λ r. ⌜ r ≡ growing (layoutOf kind) inode e ⌝ }
 {
     if inode.size == 0 {
         return false;
     }
-    span(inode.root % 8) < e
+    span(bits, low_of(bits, inode.root)) < e
 }
 
 // Plans growth, where it is due, and what follows on the grown board.
 fn plan_grown(
+    kind: Kind,
+    bits: u64,
     board: &[u64],
     free: &[u64],
     plan: &mut [u64],
+    pages: &mut [u64],
     inode: Inode,
     o: u64,
     new: &[u8],
 ) -> Count
-    requires { ⌜ Growable (now board) inode o (now new) (now free) ⌝ }
-    ensures { λ r. ⌜ PlanLaid (now (plan .entry)) 0 (grownPlan house (taking (now (free .entry))) (now (board .entry)) inode o (now (new .entry))) (now (plan .exit)) r ⌝ }
+    requires { ⌜ Pages kind bits (now pages) × Growable kind (now board) inode o (now new) (now free) ⌝ }
+    ensures { λ r. ⌜ PlanLaid (now (plan .entry)) 0 (grownPlan (layoutOf kind) (taking (now (free .entry))) (now (board .entry)) inode o (now (new .entry))) (now (plan .exit)) r ⌝ }
 {
     let e = o + new.len() as u64;
-    let mut stores = [0u64; 52];
-    if !grows(inode, e) {
-        return way(board, &stores[..0], free, plan, 0, inode, o, new, 0);
+    if !grows(kind, bits, inode, e) {
+        let none = not_grown();
+        return way(
+            kind,
+            bits,
+            board,
+            none,
+            free,
+            plan,
+            pages,
+            0,
+            inode,
+            o,
+            new,
+            0,
+        );
     }
-    let h = least_height(e);
-    let count = grow(free, &mut stores, inode, h);
-    grow(free, plan, inode, h);
+    let h = height_in(kind, e);
+    let count = grow(kind, bits, free, plan, inode, h);
     barrier(plan, count.pairs);
-    let end = 2 * count.pairs as usize;
-    let base = count.pairs + 1 - 8 * count.taken;
-    let root = grown_root(free, inode.root, h);
-    let grown = Inode {
+    let base = count.pairs + 1 - start_of(bits, count.taken);
+    let root = grown_root(bits, free, inode.root, h);
+    let grown = Grown {
+        below: block_of(bits, inode.root),
+        levels: count.taken,
+        at: inode.at,
+        root: root,
+    };
+    let after = Inode {
         pointer: inode.pointer,
         at: inode.at,
         root: root,
         size: inode.size,
     };
     way(
+        kind,
+        bits,
         board,
-        &stores[..end],
+        grown,
         free,
         plan,
+        pages,
         base,
-        grown,
+        after,
         o,
         new,
         count.taken,
@@ -101,36 +134,39 @@ fn plan_grown(
 // Plans a write. A single word is never one that growth comes before, so the lent board decides it. The inode is read here. Below, only a shadow inside
 // the file reads the word again that it commits to, for its low bits, and that may be the root.
 pub fn plan_write(
+    kind: Kind,
+    bits: u64,
     board: &[u64],
     free: &[u64],
     plan: &mut [u64],
+    pages: &mut [u64],
     file: u64,
     o: u64,
     new: &[u8],
 ) -> Count
-    requires { ⌜ Asked (now board) file o (now new) (now free) ⌝ }
-    ensures { λ r. ⌜ PlanLaid (now (plan .entry)) 0 (writePlan house (taking (now (free .entry))) (now (board .entry)) file o (now (new .entry))) (now (plan .exit)) r ⌝ }
+    requires { ⌜ Pages kind bits (now pages) × Asked kind (now board) file o (now new) (now free) ⌝ }
+    ensures { λ r. ⌜ PlanLaid (now (plan .entry)) 0 (writePlan (layoutOf kind) (taking (now (free .entry))) (now (board .entry)) file o (now (new .entry))) (now (plan .exit)) r ⌝ }
 {
-    let inode = lent_inode(board, file);
+    let inode = lent_inode(kind, board, file);
     let e = o + new.len() as u64;
     if inode.size < e {
-        return plan_grown(board, free, plan, inode, o, new);
+        return plan_grown(kind, bits, board, free, plan, pages, inode, o, new);
     }
     if o / 8 != (e - 1) / 8 {
-        return plan_grown(board, free, plan, inode, o, new);
+        return plan_grown(kind, bits, board, free, plan, pages, inode, o, new);
     }
-    let WalkEnd::Block(k) = root_walk(board, inode.root, inode.size, o) else {
-        return plan_grown(board, free, plan, inode, o, new);
+    let WalkEnd::Block(k) = root_walk(bits, board, inode.root, inode.size, o) else {
+        return plan_grown(kind, bits, board, free, plan, pages, inode, o, new);
     };
-    single(board, plan, k, o, new)
+    single(kind, bits, board, plan, k, o, new)
 }
 
 // Plans a length change to n. Answers how many pairs there are.
-pub fn plan_length(board: &[u64], plan: &mut [u64], file: u64, n: u64) -> u64
-    requires { ⌜ File (now board) file × (n ≤ 32768) ⌝ }
-    ensures { λ r. ⌜ Laid (now (plan .entry)) 0 (pairs (lengthPlan house (now (board .entry)) file n)) (now (plan .exit)) r ⌝ }
+pub fn plan_length(kind: Kind, bits: u64, board: &[u64], plan: &mut [u64], file: u64, n: u64) -> u64
+    requires { ⌜ Bits kind bits × File kind (now board) file × (n ≤ greatest (layoutOf kind)) ⌝ }
+    ensures { λ r. ⌜ Laid (now (plan .entry)) 0 (pairs (lengthPlan (layoutOf kind) (now (board .entry)) file n)) (now (plan .exit)) r ⌝ }
 {
-    let at = root_address(board, file);
+    let at = root_address(kind, board, file);
     let root = word(board, at);
     let s = word(board, at + 1);
     if n == s {
@@ -143,21 +179,8 @@ pub fn plan_length(board: &[u64], plan: &mut [u64], file: u64, n: u64) -> u64
         pair(plan, 0, at, 0);
         return commit(plan, 0, 1, at + 1, n);
     }
-    let zeros = [0u8; 32768];
-    let none = [0u64; 0];
-    let len = (n - s) as usize;
-    let q = in_place(
-        board,
-        &none,
-        &none,
-        plan,
-        0,
-        root % 8,
-        root / 8,
-        s,
-        &zeros[..len],
-        0,
-        at,
-    );
+    let h = low_of(bits, root);
+    let k = block_of(bits, root);
+    let q = clear_in_place(bits, board, plan, 0, h, k, s, n - s, at);
     commit(plan, 0, q, at + 1, n)
 }

@@ -1,4 +1,3 @@
--- What the proofs of several functions use: the descent of a shadow (Descents), an inode leaf's copy (LeafCopy), and ways 4 to 6 (Ways).
+-- What the proofs of several functions use: a descent, pointer by pointer (Descents), and the ways from the fourth on (Ways).
 pub mod Descents
-pub mod LeafCopy
 pub mod Ways

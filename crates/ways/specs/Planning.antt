@@ -1,26 +1,34 @@
--- What the ways of planning are asked on, and where a descent ends. The board is read with planned stores performed: c is the board then.
+-- What the ways of planning are asked on, and where a descent ends. The board is read with growth performed: c is the board then.
 use mathlib.Core.Path.{_≡_}
 use mathlib.Core.List.{List}
 use Prim.Native.Nat.{ℕ, _+_, _*_, _%_, _^_, _≤_, _<_}
 use lib.ListN.{length}
 use Rattle.model.specs.declared.Inode.{Inode}
+use Rattle.model.specs.declared.Kind.{Kind}
+use Rattle.model.specs.Layout.{layoutOf}
 use Rattle.model.specs.Tree.{span}
+use Rattle.model.specs.Board.{greatest}
 use Rattle.model.specs.Fresh.{build}
 use Rattle.model.specs.Change.{descend}
-use Rattle.building.specs.Taking.{Blocks}
+use Rattle.kinds.specs.Figures.{Bits}
+use Rattle.plans.specs.declared.Grown.{Grown}
+use Rattle.plans.specs.Onto.{Pointers}
 use Rattle.ways.specs.declared.Spot.{Spot}
 
 -- where a descent ends: the tree that is built anew, and the address of its pointer
-pub record Descended (c : List ℕ) (h k n o : ℕ) (new : List ℕ) (a : ℕ) (r : Spot) : Type 0 where
-  pub is : (fresh : ℕ → ℕ) (t : ℕ) → descend 8 fresh c h k n o new t a ≡ record { at = r .at; pages = build 8 fresh c (r .height) (r .block) (r .left) (r .offset) new t }
+pub record Descended (W : ℕ) (c : List ℕ) (h k n o : ℕ) (new : List ℕ) (a : ℕ) (r : Spot) : Type 0 where
+  pub is : (fresh : ℕ → ℕ) (t : ℕ) → descend W fresh c h k n o new t a ≡ record { at = r .at; pages = build W fresh c (r .height) (r .block) (r .left) (r .offset) new t }
   pub low : r .height ≤ h
 
--- A write of `new` at o that stays within the bounds, to the file with inode n, whose tree spans it. The size stands in the word after the root
-pub record Ready (n : Inode) (o : ℕ) (new free : List ℕ) (base taken : ℕ) : Type 0 where
-  pub blocks : Blocks free
+-- A write of `new` at o that stays within the bounds, to the file with inode n, whose tree spans it. The size stands in the word after the root; there
+-- is room for a page on each level of a tree
+pub record Ready (kind : Kind) (bits : ℕ) (n : Inode) (o : ℕ) (new free pages : List ℕ) (grown : Grown) (base taken : ℕ) : Type 0 where
+  pub wide : Bits kind bits
+  pub pointers : Pointers bits free grown
+  pub room : 2 ^ bits * layoutOf kind .height ≤ length pages
   pub some : 0 < length new
-  pub end : o + length new ≤ 32768
+  pub end : o + length new ≤ greatest (layoutOf kind)
   pub address : n .at + 1 < 2 ^ 64
-  pub height : 0 < n .size → n .root % 8 ≤ 3
-  pub spans : 0 < n .size → o + length new ≤ span 8 (n .root % 8)
-  pub place : base + 8 * taken ≤ 2 ^ 16
+  pub height : 0 < n .size → n .root % layoutOf kind .words ≤ layoutOf kind .height
+  pub spans : 0 < n .size → o + length new ≤ span (layoutOf kind .words) (n .root % layoutOf kind .words)
+  pub place : base + 2 ^ bits * taken ≤ 2 ^ 16

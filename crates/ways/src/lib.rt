@@ -1,11 +1,12 @@
 // The ways of planning a write from the fourth on: tail, shadow inside, shadow with length. The names of arguments are those of `building`.
-use bands::least_height;
 use building::build;
 use building::minus;
-use building::take;
 use growing::Count;
+use kinds::height_in;
 use model::Inode;
+use model::Kind;
 use model::WalkEnd;
+use plans::Grown;
 use plans::cell_on;
 use plans::commit;
 use plans::pair;
@@ -14,42 +15,65 @@ use tails::in_place;
 use tails::tail_pages;
 use tails::walk_live;
 use trees::span;
+use words::block_of;
+use words::low_of;
+use words::start_of;
+use words::width;
 use words::word;
 ghost use mathlib.Core.Path.{_≡_};
+ghost use mathlib.Core.List.{[], _∷_};
 ghost use Prim.Native.Nat.{_+_, _*_, _^_, _≤_, _<_};
 ghost use lib.ListN.{length};
-ghost use Rattle.model.specs.Lists.{tabulate};
-ghost use Rattle.model.specs.Layout.{house};
+ghost use Rattle.model.specs.Layout.{layoutOf};
 ghost use Rattle.model.specs.Tree.{span};
 ghost use Rattle.model.specs.Change.{emptyTail, tail, shadowInside, leafPage, shadowWithLength, chosenWay};
-ghost use Rattle.plans.specs.Laying.{onto};
-ghost use Rattle.building.specs.Taking.{taking};
+ghost use Rattle.trees.specs.Trees.{Reach};
+ghost use Rattle.plans.specs.Onto.{taking, onto, Pointers};
+ghost use Rattle.building.specs.Taking.{Took};
 ghost use Rattle.growing.specs.Planned.{PlanLaid};
 ghost use Rattle.ways.specs.Planning.{Descended, Ready};
 
 // A write into an empty file, at any offset: bytes before o read 0, and pointers that lead to none of the new bytes are null.
 fn fill_empty(
+    kind: Kind,
+    bits: u64,
     board: &[u64],
-    grown: &[u64],
+    grown: Grown,
     free: &[u64],
     plan: &mut [u64],
+    pages: &mut [u64],
     base: u64,
     inode: Inode,
     o: u64,
     new: &[u8],
     c: u64,
 ) -> Count
-    requires { ⌜ Ready inode o (now new) (now free) base c ⌝ }
-    ensures { λ r. ⌜ PlanLaid (now (plan .entry)) (base + 8 * c)
-        (emptyTail house (taking (now (free .entry))) (onto (now (board .entry)) (now (grown .entry))) inode o (now (new .entry)) c) (now (plan .exit)) r ⌝ }
+    requires { ⌜ Ready kind bits inode o (now new) (now free) (now pages) grown base c ⌝ }
+    ensures { λ r. ⌜ PlanLaid (now (plan .entry)) (base + 2 ^ bits * c)
+        (emptyTail (layoutOf kind) (taking (now (free .entry))) (onto (2 ^ bits) (now (free .entry)) (now (board .entry)) grown) inode o (now (new .entry)) c) (now (plan .exit)) r ⌝ }
 {
-    let at = inode.at;
     let e = o + new.len() as u64;
-    let h = least_height(e);
-    let taken = build(board, grown, free, plan, base, h, 0, 0, o, new, c);
-    let q = base + 8 * taken;
-    pair(plan, q, at, 8 * word(free, taken - 1) + h);
-    let pairs = commit(plan, base + 8 * c, q + 1, at + 1, e);
+    let h = height_in(kind, e);
+    let taken = build(
+        bits,
+        board,
+        grown,
+        free,
+        plan,
+        pages,
+        base,
+        h,
+        0,
+        0,
+        o,
+        new,
+        c,
+    );
+    let q = base + start_of(bits, taken);
+    let value = start_of(bits, word(free, taken - 1)) + h;
+    pair(plan, q, inode.at, value);
+    let from = base + start_of(bits, c);
+    let pairs = commit(plan, from, q + 1, inode.at + 1, e);
     Count {
         pairs: pairs,
         taken: taken,
@@ -58,48 +82,45 @@ fn fill_empty(
 
 // A write at the end of a file whose last live block exists.
 fn append(
+    kind: Kind,
+    bits: u64,
     board: &[u64],
-    grown: &[u64],
+    grown: Grown,
     free: &[u64],
     plan: &mut [u64],
+    pages: &mut [u64],
     base: u64,
     inode: Inode,
     new: &[u8],
     c: u64,
 ) -> Count
-    requires { ⌜ (0 < inode .size) × Ready inode (inode .size) (now new) (now free) base c ⌝ }
-    ensures { λ r. ⌜ PlanLaid (now (plan .entry)) (base + 8 * c)
-        (tail house (taking (now (free .entry))) (onto (now (board .entry)) (now (grown .entry))) inode (inode .size) (inode .size) (now (new .entry)) c) (now (plan .exit)) r ⌝ }
+    requires { ⌜ (0 < inode .size) × Ready kind bits inode (inode .size) (now new) (now free) (now pages) grown base c ⌝ }
+    ensures { λ r. ⌜ PlanLaid (now (plan .entry)) (base + 2 ^ bits * c)
+        (tail (layoutOf kind) (taking (now (free .entry))) (onto (2 ^ bits) (now (free .entry)) (now (board .entry)) grown) inode (inode .size) (inode .size) (now (new .entry)) c) (now (plan .exit)) r ⌝ }
 {
-    let at = inode.at;
     let root = inode.root;
+    let h = low_of(bits, root);
+    let k = block_of(bits, root);
     let s = inode.size;
-    let taken = tail_pages(
-        board,
-        grown,
-        free,
-        plan,
-        base,
-        root % 8,
-        root / 8,
-        s,
-        new,
-        c,
-    );
+    let taken = tail_pages(bits, board, grown, free, plan, pages, base, h, k, s, new, c);
+    let p = base + start_of(bits, taken);
     let q = in_place(
+        bits,
         board,
         grown,
         free,
         plan,
-        base + 8 * taken,
-        root % 8,
-        root / 8,
+        pages,
+        p,
+        h,
+        k,
         s,
         new,
         c,
-        at,
+        inode.at,
     );
-    let pairs = commit(plan, base + 8 * c, q, at + 1, s + new.len() as u64);
+    let from = base + start_of(bits, c);
+    let pairs = commit(plan, from, q, inode.at + 1, s + new.len() as u64);
     Count {
         pairs: pairs,
         taken: taken,
@@ -117,9 +138,20 @@ pub struct Spot {
 
 // Goes down the tree (h, k, n), whose pointer stands at address a, while its block exists, isn't data and all of `new`, written at o, lies under one
 // of its pointers.
-fn descend(board: &[u64], grown: &[u64], h: u64, k: u64, n: u64, o: u64, new: &[u8], a: u64) -> Spot
-    requires { ⌜ (h < 8) × (k < 2 ^ 61) × (o < span 8 h) × (length (now new) ≤ 32768) ⌝ }
-    ensures { λ r. ⌜ Descended (onto (now (board .entry)) (now (grown .entry))) h k n o (now (new .entry)) a r ⌝ }
+fn descend(
+    bits: u64,
+    board: &[u64],
+    grown: Grown,
+    free: &[u64],
+    h: u64,
+    k: u64,
+    n: u64,
+    o: u64,
+    new: &[u8],
+    a: u64,
+) -> Spot
+    requires { ⌜ Reach bits h × Pointers bits (now free) grown × (2 ^ bits * k + 2 ^ bits ≤ 2 ^ 64) × (o < span (2 ^ bits) h) × (length (now new) ≤ 2 ^ 32) ⌝ }
+    ensures { λ r. ⌜ Descended (2 ^ bits) (onto (2 ^ bits) (now (free .entry)) (now (board .entry)) grown) h k n o (now (new .entry)) a r ⌝ }
 {
     let spot = Spot {
         height: h,
@@ -134,50 +166,49 @@ fn descend(board: &[u64], grown: &[u64], h: u64, k: u64, n: u64, o: u64, new: &[
     if k == 0 {
         return spot;
     }
-    let s = span(h - 1);
+    let s = span(bits, h - 1);
     let rest = o % s;
     if s < rest + new.len() as u64 {
         return spot;
     }
     let j = o / s;
-    let p = cell_on(board, grown, k, j);
-    descend(
-        board,
-        grown,
-        h - 1,
-        p / 8,
-        minus(n, j * s),
-        rest,
-        new,
-        8 * k + j,
-    )
+    let p = cell_on(bits, board, grown, free, k, j);
+    let below = block_of(bits, p);
+    let left = minus(n, j * s);
+    let to = start_of(bits, k) + j;
+    descend(bits, board, grown, free, h - 1, below, left, rest, new, to)
 }
 
 // A write within the size, committed at one pointer.
 fn shadow_inside(
+    kind: Kind,
+    bits: u64,
     board: &[u64],
-    grown: &[u64],
+    grown: Grown,
     free: &[u64],
     plan: &mut [u64],
+    pages: &mut [u64],
     base: u64,
     inode: Inode,
     o: u64,
     new: &[u8],
     c: u64,
 ) -> Count
-    requires { ⌜ (0 < inode .size) × Ready inode o (now new) (now free) base c ⌝ }
-    ensures { λ r. ⌜ PlanLaid (now (plan .entry)) (base + 8 * c)
-        (shadowInside house (taking (now (free .entry))) (onto (now (board .entry)) (now (grown .entry))) inode o (now (new .entry)) c) (now (plan .exit)) r ⌝ }
+    requires { ⌜ (0 < inode .size) × Ready kind bits inode o (now new) (now free) (now pages) grown base c ⌝ }
+    ensures { λ r. ⌜ PlanLaid (now (plan .entry)) (base + 2 ^ bits * c)
+        (shadowInside (layoutOf kind) (taking (now (free .entry))) (onto (2 ^ bits) (now (free .entry)) (now (board .entry)) grown) inode o (now (new .entry)) c) (now (plan .exit)) r ⌝ }
 {
-    let at = inode.at;
     let root = inode.root;
-    let s = inode.size;
-    let spot = descend(board, grown, root % 8, root / 8, s, o, new, at);
+    let h = low_of(bits, root);
+    let k = block_of(bits, root);
+    let spot = descend(bits, board, grown, free, h, k, inode.size, o, new, inode.at);
     let taken = build(
+        bits,
         board,
         grown,
         free,
         plan,
+        pages,
         base,
         spot.height,
         spot.block,
@@ -186,84 +217,128 @@ fn shadow_inside(
         new,
         c,
     );
-    let low = word_on(board, grown, spot.at) % 8;
-    let pairs = commit(
-        plan,
-        base + 8 * c,
-        base + 8 * taken,
-        spot.at,
-        8 * word(free, taken - 1) + low,
-    );
+    let low = low_of(bits, word_on(bits, board, grown, free, spot.at));
+    let value = start_of(bits, word(free, taken - 1)) + low;
+    let from = base + start_of(bits, c);
+    let end = base + start_of(bits, taken);
+    let pairs = commit(plan, from, end, spot.at, value);
     Count {
         pairs: pairs,
         taken: taken,
     }
 }
 
-// The words of the inode leaf of the inode at address `at`, with its root and its size replaced.
-fn leaf_words(board: &[u64], grown: &[u64], at: u64, root: u64, size: u64) -> [u64; 8]
-    ensures { λ r. ⌜ r ≡ tabulate 8 (leafPage 8 (onto (now (board .entry)) (now (grown .entry))) at root size) ⌝ }
+// Word j of the inode leaf of the inode at address `at`, with its root and its size replaced.
+fn leaf_word(
+    bits: u64,
+    board: &[u64],
+    grown: Grown,
+    free: &[u64],
+    at: u64,
+    root: u64,
+    size: u64,
+    j: u64,
+) -> u64
+    requires { ⌜ Pointers bits (now free) grown ⌝ }
+    ensures { λ r. ⌜ r ≡ leafPage (2 ^ bits) (onto (2 ^ bits) (now (free .entry)) (now (board .entry)) grown) at root size j ⌝ }
 {
-    let slot = at % 8;
-    let mut page = [0u64; 8];
+    let slot = low_of(bits, at);
+    if j == slot {
+        return root;
+    }
+    if j == slot + 1 {
+        return size;
+    }
+    cell_on(bits, board, grown, free, block_of(bits, at), j)
+}
+
+// Takes the next free block for that leaf and lays its stores. Answers how many are taken then.
+fn take_leaf(
+    bits: u64,
+    board: &[u64],
+    grown: Grown,
+    free: &[u64],
+    plan: &mut [u64],
+    base: u64,
+    at: u64,
+    root: u64,
+    size: u64,
+    c: u64,
+) -> u64
+    requires { ⌜ Pointers bits (now free) grown × (base + 2 ^ bits * (c + 1) ≤ 2 ^ 32) ⌝ }
+    ensures { λ r. ⌜ Took (2 ^ bits) (now (free .entry)) (now (plan .entry)) base c (leafPage (2 ^ bits) (onto (2 ^ bits) (now (free .entry)) (now (board .entry)) grown) at root size ∷ []) (now (plan .exit)) r ⌝ }
+{
+    let p = base + start_of(bits, c);
+    if plan.len() as u64 <= p {
+        return c + 1;
+    }
+    let w = width(bits);
+    let to = start_of(bits, word(free, c));
     let mut j = 0;
-    while j < 8 {
-        let i = j as u64;
-        if i == slot {
-            page[j] = root;
-        } else if i == slot + 1 {
-            page[j] = size;
-        } else {
-            page[j] = cell_on(board, grown, at / 8, i);
-        }
+    while j < w {
+        let value = leaf_word(bits, board, grown, free, at, root, size, j);
+        pair(plan, p + j, to + j, value);
         j += 1;
     }
-    page
+    c + 1
 }
 
 // A write that ends past the size, committed at the inode pointer.
 fn shadow_with_length(
+    kind: Kind,
+    bits: u64,
     board: &[u64],
-    grown: &[u64],
+    grown: Grown,
     free: &[u64],
     plan: &mut [u64],
+    pages: &mut [u64],
     base: u64,
     inode: Inode,
     o: u64,
     new: &[u8],
     c: u64,
 ) -> Count
-    requires { ⌜ (0 < inode .size) × Ready inode o (now new) (now free) base c ⌝ }
-    ensures { λ r. ⌜ PlanLaid (now (plan .entry)) (base + 8 * c)
-        (shadowWithLength house (taking (now (free .entry))) (onto (now (board .entry)) (now (grown .entry))) inode o (now (new .entry)) c) (now (plan .exit)) r ⌝ }
+    requires { ⌜ (0 < inode .size) × Ready kind bits inode o (now new) (now free) (now pages) grown base c ⌝ }
+    ensures { λ r. ⌜ PlanLaid (now (plan .entry)) (base + 2 ^ bits * c)
+        (shadowWithLength (layoutOf kind) (taking (now (free .entry))) (onto (2 ^ bits) (now (free .entry)) (now (board .entry)) grown) inode o (now (new .entry)) c) (now (plan .exit)) r ⌝ }
 {
-    let at = inode.at;
-    let root = inode.root;
+    let h = low_of(bits, inode.root);
+    let k = block_of(bits, inode.root);
     let s = inode.size;
     let e = o + new.len() as u64;
     let taken = build(
+        bits,
         board,
         grown,
         free,
         plan,
+        pages,
         base,
-        root % 8,
-        root / 8,
+        h,
+        k,
         s,
         o,
         new,
         c,
     );
     let size = if s < e { e } else { s };
-    let page = leaf_words(board, grown, at, 8 * word(free, taken - 1) + root % 8, size);
-    let all = take(free, plan, base, page, taken);
-    let pairs = commit(
+    let root = start_of(bits, word(free, taken - 1)) + h;
+    let all = take_leaf(
+        bits,
+        board,
+        grown,
+        free,
         plan,
-        base + 8 * c,
-        base + 8 * all,
-        inode.pointer,
-        8 * word(free, taken),
+        base,
+        inode.at,
+        root,
+        size,
+        taken,
     );
+    let from = base + start_of(bits, c);
+    let end = base + start_of(bits, all);
+    let value = start_of(bits, word(free, taken));
+    let pairs = commit(plan, from, end, inode.pointer, value);
     Count {
         pairs: pairs,
         taken: all,
@@ -272,32 +347,101 @@ fn shadow_with_length(
 
 // The first of ways 4 to 6 whose condition holds.
 pub fn way(
+    kind: Kind,
+    bits: u64,
     board: &[u64],
-    grown: &[u64],
+    grown: Grown,
     free: &[u64],
     plan: &mut [u64],
+    pages: &mut [u64],
     base: u64,
     inode: Inode,
     o: u64,
     new: &[u8],
     c: u64,
 ) -> Count
-    requires { ⌜ Ready inode o (now new) (now free) base c ⌝ }
-    ensures { λ r. ⌜ PlanLaid (now (plan .entry)) (base + 8 * c)
-        (chosenWay house (taking (now (free .entry))) (onto (now (board .entry)) (now (grown .entry))) inode o (now (new .entry)) c) (now (plan .exit)) r ⌝ }
+    requires { ⌜ Ready kind bits inode o (now new) (now free) (now pages) grown base c ⌝ }
+    ensures { λ r. ⌜ PlanLaid (now (plan .entry)) (base + 2 ^ bits * c)
+        (chosenWay (layoutOf kind) (taking (now (free .entry))) (onto (2 ^ bits) (now (free .entry)) (now (board .entry)) grown) inode o (now (new .entry)) c) (now (plan .exit)) r ⌝ }
 {
     let s = inode.size;
     if s == 0 {
-        return fill_empty(board, grown, free, plan, base, inode, o, new, c);
+        return fill_empty(
+            kind,
+            bits,
+            board,
+            grown,
+            free,
+            plan,
+            pages,
+            base,
+            inode,
+            o,
+            new,
+            c,
+        );
     }
     if o == s {
-        let WalkEnd::Block(_) = walk_live(board, grown, inode.root % 8, inode.root / 8, s) else {
-            return shadow_with_length(board, grown, free, plan, base, inode, o, new, c);
+        let h = low_of(bits, inode.root);
+        let k = block_of(bits, inode.root);
+        let WalkEnd::Block(_) = walk_live(bits, board, grown, free, h, k, s) else {
+            return shadow_with_length(
+                kind,
+                bits,
+                board,
+                grown,
+                free,
+                plan,
+                pages,
+                base,
+                inode,
+                o,
+                new,
+                c,
+            );
         };
-        return append(board, grown, free, plan, base, inode, new, c);
+        return append(
+            kind,
+            bits,
+            board,
+            grown,
+            free,
+            plan,
+            pages,
+            base,
+            inode,
+            new,
+            c,
+        );
     }
     if o + new.len() as u64 <= s {
-        return shadow_inside(board, grown, free, plan, base, inode, o, new, c);
+        return shadow_inside(
+            kind,
+            bits,
+            board,
+            grown,
+            free,
+            plan,
+            pages,
+            base,
+            inode,
+            o,
+            new,
+            c,
+        );
     }
-    shadow_with_length(board, grown, free, plan, base, inode, o, new, c)
+    shadow_with_length(
+        kind,
+        bits,
+        board,
+        grown,
+        free,
+        plan,
+        pages,
+        base,
+        inode,
+        o,
+        new,
+        c,
+    )
 }

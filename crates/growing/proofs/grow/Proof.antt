@@ -1,29 +1,43 @@
-use Prim.Native.Nat.{_-_, _/_, _%_, _≤_}
+use Prim.Native.Nat.{_-_, _*_, _/_, _^_, _≤_}
 use native.Mathlib.Omega.{arith}
+use native.Mathlib.Nat.{mul-le-mul, mul-comm, div-mul-le-self}
 use borrow.Author.Needs.{needs}
+use Rattle.model.specs.Layout.{layoutOf}
+use Rattle.words.proofs.Widths as Widths
 use Rattle.growing.proofs.Growth.{few-levels, growth-laid}
 use Rattle.growing.proofs.grow.Statement.{statement}
 use Rattle.growing.proofs.grow.Tie as tie
 
-few : (c : tie.After-levels) → c .levels .result ≤ 3
-few c = let s = c .before .before .before .before in
-    omega (arith, few-levels (s .args .inode .root / 8) (s .args .h - s .args .inode .root % 8) (c .levels .ensures), s .pre .2)
+few : (c : tie.After-levels) → c .levels .result ≤ 7
+few c = let s = c .before .before .before .before .before .before in
+    omega (arith, few-levels (c .before .before .block-of .result) (s .args .h - c .before .low-of .result) (c .levels .ensures), s .pre .3)
+
+-- the places of the levels' pairs
+places : (c : tie.After-levels) → 2 ^ (c .before .before .before .before .before .before .args .bits) * c .levels .result ≤ 512 * 7
+places c = mul-le-mul (Widths.most (c .before .before .before .before .before .before .pre .0 .width)) (few c)
 
 sub-levels : tie.Need-sub-levels
-sub-levels c = c .before .before .before .pre .1
+sub-levels c = let s = c .before .before .before .before .before in rw (c .low-of .ensures, ← s .pre .0 .is) (s .pre .2)
 
-mul-commit : tie.Need-mul-commit
-mul-commit c = omega (arith, few (c .before .before .before))
+levels-requires : tie.Need-levels-requires
+levels-requires c κs = let s = c .before .before .before .before .before in let w = s .args .inode .root in let W = 2 ^ s .args .bits in
+    (s .pre .0 .width, s .pre .1, rw (c .before .block-of .ensures) (omega (arith, div-mul-le-self w W, mul-comm W (w / W))), omega (arith, s .pre .3))
 
 grown-root-requires : tie.Need-grown-root-requires
-grown-root-requires c κs = c .before .before .before .before .before .before .before .pre
+grown-root-requires c κs = let s = c .before .before .before .before .before .before .before .before in (s .pre .0 .width, s .pre .1, rw (← s .pre .0 .is) (s .pre .2), s .pre .3)
+
+start-of-requires : tie.Need-start-of-requires
+start-of-requires c κs = (omega (arith, c .before .before .before .before .before .before .before .before .before .before .pre .0 .width .high), omega (arith, places (c .before .before .before .before)))
 
 commit-requires : tie.Need-commit-requires
-commit-requires c κs = omega (arith, few (c .before .before .before .before))
+commit-requires c κs = omega (arith, places (c .before .before .before .before .before), c .start-of .ensures)
 
 returns : tie.Need-returns
-returns c = let t = c .before .before .before in let s = c .before .before .before .before .before .before .before .before .before .before .before in
-    growth-laid (s .args .inode) (s .args .h) (c .before .before .before .before .before .before .before .levels .ensures) (t .grown-root .ensures) (c .before .before .commit .ensures)
+returns c = let s = c .before .before .before .before .before .before .before .before .before .before .before .before .before .before in let is = s .pre .0 .is in let l = c .before .before .before .before .before .before .before .before in
+    growth-laid (layoutOf (s .args .kind)) (s .args .inode) (s .args .h)
+    (rw (c .before .before .before .before .before .before .before .before .before .before .block-of .ensures, c .before .before .before .before .before .before .before .before .before .low-of .ensures, ← is) at (l .levels .ensures))
+    (rw (← is) at (c .before .before .before .before .before .grown-root .ensures))
+    (rw (c .before .before .before .start-of .ensures, ← is) at (c .before .before .commit .ensures))
 
 pub grow-spec : {M : Type 1} → statement M
-grow-spec = tie.close (tie.spec sub-levels (λ c κs. search needs) mul-commit grown-root-requires commit-requires (λ c. search needs) returns)
+grow-spec = tie.close (tie.spec (λ c κs. search needs) (λ c κs. search needs) sub-levels levels-requires grown-root-requires start-of-requires commit-requires (λ c. search needs) returns)

@@ -1,79 +1,64 @@
 use mathlib.Core.List.{List}
-use Prim.Native.Nat.{ℕ, _+_, _*_, _/_, _%_, _^_, _≤_}
+use Prim.Native.Nat.{ℕ, _+_, _*_, _^_, _≤_}
 use native.Mathlib.Omega.{arith}
 use borrow.Author.Needs.{needs}
-use Rattle.plans.specs.Laying.{onto}
+use Rattle.model.specs.Layout.{layoutOf}
+use Rattle.kinds.proofs.Figures.{small-sizes}
+use Rattle.plans.specs.Onto.{onto}
+use Rattle.tails.proofs.Room.{address-room}
 use Rattle.ways.proofs.Ways as Ways
 use Rattle.ways.proofs.append.Statement.{statement}
 use Rattle.ways.proofs.append.Tie as tie
 
 -- the board that is read
-seen : tie.Start → List ℕ
-seen s = onto (s .args .board .now) (s .args .grown .now)
+abbrev seen : tie.Start → List ℕ
+seen s = onto (2 ^ s .args .bits) (s .args .free .now) (s .args .board .now) (s .args .grown)
 
-low : (s : tie.Start) → s .args .inode .root % 8 ≤ 3
-low s = s .pre .1 .height (s .pre .0)
+low : (c : tie.After-low-of) → c .low-of .result ≤ layoutOf (c .before .before .before .before .before .before .args .kind) .height
+low c = let s = c .before .before .before .before .before .before in Ways.root-height (s .pre .1) (s .pre .0) (c .low-of .ensures)
 
 tail-pages-requires : tie.Need-tail-pages-requires
-tail-pages-requires c κs =
-    let s = c .before .before .before .before .before .before in
-    let n = s .args .inode in
-    Ways.may-tail (n .root % 8) (n .size) (s .pre .1) (low s)
+tail-pages-requires c κs = let s = c .before .before .before .before .before .before .before .before .before in let h = c .before .before .before in Ways.may-tail (s .pre .1) (seen s) (h .low-of .result) (s .args .inode .size) (low h)
 
-place : (c : tie.After-tail-pages) → let a = c .before .before .before .before .before .before .before .args in a .base + 8 * c .tail-pages .result ≤ 2 ^ 17
-unfolding seen
-place c =
-    let s = c .before .before .before .before .before .before .before in
-    let n = s .args .inode in
-    Ways.tail-place (seen s) (n .root % 8) (n .root / 8) (n .size) (s .pre .1) (low s) (c .tail-pages .ensures)
+place : (c : tie.After-tail-pages) → let a = c .before .before .before .before .before .before .before .before .before .before .args in a .base + 2 ^ a .bits * c .tail-pages .result ≤ 2 ^ 19
+place c = let s = c .before .before .before .before .before .before .before .before .before .before in let h = c .before .before .before .before in
+    Ways.tail-place (s .pre .1) (seen s) (h .low-of .result) (c .before .before .before .block-of .result) (s .args .inode .size) (low h) (c .tail-pages .ensures)
 
-mul-in-place : tie.Need-mul-in-place
-mul-in-place c = omega (arith, place (c .before .before .before))
+start-of-requires : tie.Need-start-of-requires
+start-of-requires c κs = (omega (arith, c .before .before .before .before .before .before .before .before .before .before .before .before .before .before .pre .1 .wide .width .high), omega (arith, place (c .before .before .before .before)))
 
-add-in-place : tie.Need-add-in-place
-add-in-place c = omega (arith, place (c .before .before .before))
+add-p : tie.Need-add-p
+add-p c = omega (arith, place (c .before .before .before .before .before), c .start-of .ensures)
 
 in-place-requires : tie.Need-in-place-requires
-unfolding seen
-in-place-requires c κs =
-    let s = c .before .before .before .before .before .before .before .before .before .before in
-    let n = s .args .inode in
-    Ways.may-store (seen s) (n .root % 8) (n .root / 8) (n .size) (n .at) _ (s .pre .1) (low s) (omega arith) (place (c .before .before .before))
+in-place-requires c κs = let s = c .before .before .before .before .before .before .before .before .before .before .before .before .before .before .before .before .before in let h = c .before .before .before .before .before .before .before .before .before .before .before in let k = c .before .before .before .before .before .before .before .before .before .before in let t = c .before .before .before .before .before .before .before in
+    Ways.may-store (s .pre .1) (seen s) (h .low-of .result) (k .block-of .result) (s .args .inode .size) (low h) (t .tail-pages .last .1 .1 .1 .1 .1 .0) (s .args .inode .at) _ (t .tail-pages .kept .1 .1 .1 .1 .1 .0)
+    (rw (k .block-of .ensures) (address-room (s .pre .1 .wide .width) (s .args .inode .root) (omega (arith, s .good)))) (omega (arith, place t, c .before .before .start-of .ensures))
+
+start-of-requires-2 : tie.Need-start-of-requires-2
+start-of-requires-2 c κs = let s = c .before .before .before .before .before .before .before .before .before .before .before .before .before .before .before .before .before .before .before .before .before .before in (omega (arith, s .pre .1 .wide .width .high), omega (arith, s .pre .1 .place))
+
+add-from : tie.Need-add-from
+add-from c = omega (arith, c .before .before .before .before .before .before .before .before .before .before .before .before .before .before .before .before .before .before .before .before .before .before .before .pre .1 .place, c .start-of2 .ensures)
+
+add-commit : tie.Need-add-commit
+add-commit c = omega (arith, c .before .before .before .before .before .before .before .before .before .before .before .before .before .before .before .before .before .before .before .before .before .before .before .before .before .pre .1 .address)
 
 add-commit-2 : tie.Need-add-commit-2
-add-commit-2 c = omega (arith, c .before .before .before .before .before .before .before .before .before .before .before .before .before .before .pre .1 .address)
-
-add-commit-3 : tie.Need-add-commit-3
-add-commit-3 c = omega (arith, c .before .before .before .before .before .before .before .before .before .before .before .before .before .before .pre .1 .end)
+add-commit-2 c = let s = c .before .before .before .before .before .before .before .before .before .before .before .before .before .before .before .before .before .before .before .before .before .before .before .before .before in omega (arith, s .pre .1 .end, small-sizes (s .args .kind))
 
 commit-requires : tie.Need-commit-requires
-unfolding seen
-commit-requires c κs =
-    let s = c .before .before .before .before .before .before .before .before .before .before .before .before .before .before in
-    let n = s .args .inode in
-    Ways.store-place (seen s) (n .root % 8) (n .root / 8) (n .size) (n .at) (s .pre .1) (low s) (place (c .before .before .before .before .before .before .before)) (c .before .before .before .in-place .ensures)
+commit-requires c κs = let s = c .before .before .before .before .before .before .before .before .before .before .before .before .before .before .before .before .before .before .before .before .before .before .before .before .before in let h = c .before .before .before .before .before .before .before .before .before .before .before .before .before .before .before .before .before .before .before in
+    Ways.store-place (s .pre .1) (seen s) (h .low-of .result) (c .before .before .before .before .before .before .before .before .before .before .before .before .before .before .before .before .before .before .block-of .result) (s .args .inode .size) (low h) (s .args .inode .at)
+    (omega (arith, place (c .before .before .before .before .before .before .before .before .before .before .before .before .before .before .before), c .before .before .before .before .before .before .before .before .before .before .start-of .ensures)) (c .before .before .before .before .before .before .before .in-place .ensures)
 
 returns : tie.Need-returns
-unfolding seen
-returns c =
-    let e = c .before .before in
-    let i = e .before .before .before .before in
-    let t = i .before .before .before .before in
-    let s = t .before .before .before .before .before .before .before in
-    Ways.tail-laid (seen s) (s .pre .1) (s .pre .0) (t .tail-pages .ensures) (i .in-place .ensures) (e .commit .ensures)
+returns c = let s = c .before .before .before .before .before .before .before .before .before .before .before .before .before .before .before .before .before .before .before .before .before .before .before .before .before .before .before .before in let is = s .pre .1 .wide .is in let h = c .before .before .before .before .before .before .before .before .before .before .before .before .before .before .before .before .before .before .before .before .before .before .low-of .ensures in let k = c .before .before .before .before .before .before .before .before .before .before .before .before .before .before .before .before .before .before .before .before .before .block-of .ensures in
+    rw (← is) (Ways.tail-laid (layoutOf (s .args .kind)) (onto (layoutOf (s .args .kind) .words) (s .args .free .now) (s .args .board .now) (s .args .grown)) (s .args .inode) (s .args .new .now) (s .pre .0) (rw (h, k, ← is) at (c .before .before .before .before .before .before .before .before .before .before .before .before .before .before .before .before .before .before .tail-pages .ensures))
+    (rw (c .before .before .before .before .before .before .before .before .before .before .before .before .before .start-of .ensures, h, k, ← is) at (c .before .before .before .before .before .before .before .before .before .before .in-place .ensures))
+    (rw (c .before .before .before .before .before .start-of2 .ensures, ← is) at (c .before .before .commit .ensures)))
 
 pub append-spec : {M : Type 1} → statement M
 append-spec =
-    tie.close
-    (tie.spec
-    tail-pages-requires
-    mul-in-place
-    add-in-place
-    in-place-requires
-    (λ c. search needs)
-    (λ c. search needs)
-    add-commit-2
-    add-commit-3
-    commit-requires
-    (λ c. search needs)
-    returns)
+    tie.close (tie.spec (λ c κs. search needs) (λ c κs. search needs) tail-pages-requires start-of-requires add-p in-place-requires start-of-requires-2 add-from add-commit add-commit-2 commit-requires
+    (λ c. search needs) (λ c. search needs) returns)
