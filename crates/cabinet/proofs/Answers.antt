@@ -63,7 +63,7 @@ module _ {image words : List ℕ} {n : ℕ} (c : Loaded image n words) where
     pub sized : (f : ℕ) → r ≡ sizeAnswer house (take n words) f → toZ w64 (ofZ w64 s) ≡ imageSize house image f
     sized f e = toZ-ofZ fits ∙ es ∙ ap signed (rw (c .board) at e) ∙ sym (size-answer image f)
 
-    pub read : {f o : ℕ} {out out′ : List ℕ} → ReadResult (take n words) f o out r out′ →
+    pub read : {f o : ℕ} {out out′ : List ℕ} → ReadResult house (take n words) f o out r out′ →
         ImageReadResult image f o out (toZ w64 (ofZ w64 s)) out′
     unfolding imageRead
     read {f} {o} {out} e = record {

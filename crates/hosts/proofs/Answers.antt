@@ -76,7 +76,7 @@ plan-signed fits e k = record { answer = as-signed fits e (k .answer); plan = k 
 
 -- ---- Perform
 
-pub perform-small : {b slice b′ : List ℕ} {k : ℕ} {r : Answer} → length slice < 2 ^ 64 → PerformResult b slice k r b′ → counted r < 2 ^ 63
+pub perform-small : {b slice b′ : List ℕ} {k : ℕ} {r : Answer} → length slice < 2 ^ 64 → PerformResult house b slice k r b′ → counted r < 2 ^ 63
 unfolding performAnswer performFaults
 perform-small {b} {slice} {k = k} l e = rw (e .answer) (pairs-fit (wordCountFault house b)
     ((Address, not (all (λ s. ltb (s .at) (length b) || isBarrier s) (take k (paired slice)))) ∷ []) PairCount slice k l)
