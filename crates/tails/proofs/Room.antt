@@ -1,13 +1,8 @@
 -- How many fresh blocks and how many other stores a write at the end takes at most.
 use mathlib.Core.List.{List, [], _∷_}
-use Prim.Native.Nat.{ℕ, zero, suc, _+_, _-_, _*_, _/_, _^_, _≤_, _<_}
+use Prim.Native.Nat.{ℕ, zero, suc, _+_, _-_, _*_, _/_, _≤_, _<_}
+use native.Mathlib.Nat.{mul-le-mul-left}
 use native.Mathlib.Omega.{arith}
-use native.Mathlib.Nat.{mul-le-mul-left, div-mul-le-self, mul-comm}
-use mathlib.Core.Path.{_≡_, sym, ap, _∙_}
-use mathlib.Core.Logic.{inl, inr}
-use lib.Pow.{pow-add}
-use Rattle.words.specs.Width.{Width}
-use Rattle.model.proofs.Cases.{split}
 use lib.ListN.{length}
 use Rattle.model.specs.Lists.{choose}
 use Rattle.model.specs.Tree.{span, cell}
@@ -17,17 +12,6 @@ use Rattle.model.specs.InPlace.{tailNeed, tailBefore, tailWords, hooked, inPlac
 use Rattle.model.proofs.Cases.{length-joined}
 use Rattle.building.specs.Taking.{whole}
 use Rattle.building.proofs.Room.{terms, need-most}
-
--- the words of the block that a word points to have addresses
-pub address-room : {b : ℕ} → Width b → (v : ℕ) → v < 2 ^ 64 → 2 ^ b * (v / 2 ^ b) + 2 ^ b ≤ 2 ^ 64
-address-room {b} w v l =
-    let q : ℕ = 2 ^ (64 - b) in
-    let e : b + (64 - b) ≡ 64 = omega (arith, w .high) in
-    let whole : 2 ^ b * q ≡ 2 ^ 64 = sym (pow-add 2 b (64 - b)) ∙ ap (λ (x : ℕ). 2 ^ x) e in
-    elim (split q (v / 2 ^ b)) [
-      | inl m ↦ absurd (omega (arith, mul-le-mul-left (2 ^ b) m, div-mul-le-self v (2 ^ b), mul-comm (2 ^ b) (v / 2 ^ b), whole))
-      | inr m ↦ let n : v / 2 ^ b + 1 ≤ q = omega arith in omega (arith, mul-le-mul-left (2 ^ b) n, whole)
-    ]
 
 pub tail-most : (W h n l : ℕ) → tailNeed W h n l ≤ whole W h
 unfolding tailNeed whole

@@ -1,9 +1,11 @@
 -- Shifts by the bits of a block's width. In a product with the width omega takes 2 ^ b for one unknown; what it needs to know of it stands here.
-use mathlib.Core.Path.{_≡_, _∙_}
+use mathlib.Core.Path.{_≡_, sym, ap, _∙_}
+use mathlib.Core.Logic.{inl, inr}
 use Prim.Native.Nat.{ℕ, _+_, _-_, _*_, _/_, _%_, _^_, _≤_, _<_}
-use native.Mathlib.Nat.{mul-comm, mul-le-mul-right, mod-eq-of-lt, mod-eq-sub-div-mul, div-mul-le-self, lt-div-mul-add}
+use native.Mathlib.Nat.{mul-comm, mul-le-mul-left, mul-le-mul-right, mod-eq-of-lt, mod-eq-sub-div-mul, div-mul-le-self, lt-div-mul-add}
 use native.Mathlib.Omega.{arith}
 use lib.Pow.{pow-pos, pow-mono, pow-add}
+use Rattle.model.proofs.Cases.{split}
 use Rattle.words.specs.Width.{Width, Wide}
 
 -- 8 to 512 words
@@ -41,3 +43,14 @@ beyond b k n l = omega (arith, mul-le-mul-right (2 ^ b) l, lt-div-mul-add {a = n
 -- the words of a block that is small enough have addresses
 pub address : {b k : ℕ} → Width b → k < 2 ^ 54 → 2 ^ b * k + 512 ≤ 2 ^ 63
 address {b} {k} w l = omega (arith, mul-le-mul-right k (most w))
+
+-- the words of the block that a word points to have addresses
+pub address-room : {b : ℕ} → Width b → (v : ℕ) → v < 2 ^ 64 → 2 ^ b * (v / 2 ^ b) + 2 ^ b ≤ 2 ^ 64
+address-room {b} w v l =
+    let q : ℕ = 2 ^ (64 - b) in
+    let e : b + (64 - b) ≡ 64 = omega (arith, w .high) in
+    let whole : 2 ^ b * q ≡ 2 ^ 64 = sym (pow-add 2 b (64 - b)) ∙ ap (λ (x : ℕ). 2 ^ x) e in
+    elim (split q (v / 2 ^ b)) [
+      | inl m ↦ absurd (omega (arith, mul-le-mul-left (2 ^ b) m, div-mul-le-self v (2 ^ b), mul-comm (2 ^ b) (v / 2 ^ b), whole))
+      | inr m ↦ let n : v / 2 ^ b + 1 ≤ q = omega arith in omega (arith, mul-le-mul-left (2 ^ b) n, whole)
+    ]

@@ -2,8 +2,8 @@ use Prim.Native.Nat.{_-_, _≤_}
 use native.Mathlib.Omega.{arith}
 use borrow.Author.Needs.{needs}
 use Rattle.model.specs.Layout.{layoutOf}
+use Rattle.words.proofs.Widths as Widths
 use Rattle.kinds.proofs.Figures.{reach}
-use Rattle.tails.proofs.Room.{address-room}
 use Rattle.planning.proofs.Lengths as Lengths
 use Rattle.planning.proofs.plan_length.Statement.{statement}
 use Rattle.planning.proofs.plan_length.Tie as tie
@@ -29,7 +29,7 @@ low c = let s = c .before .before .before .before .before .before .before .befor
 clear-in-place-requires : tie.Need-clear-in-place-requires
 clear-in-place-requires c κs = let s = c .before .before .before .before .before .before .before .before .before .before .before in let l = low (c .before .before) in (
   reach (s .args .kind) (s .pre .0) l,
-  rw (c .before .block-of .ensures) (address-room (s .pre .0 .width) (c .before .before .before .before .before .before .before .word .result) (omega arith)),
+  rw (c .before .block-of .ensures) (Widths.address-room (s .pre .0 .width) (c .before .before .before .before .before .before .before .word .result) (omega arith)),
   Lengths.place-room (s .pre .0) _ l _ _ _ _ _ _ _,
 )
 

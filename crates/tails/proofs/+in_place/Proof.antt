@@ -15,7 +15,6 @@ use Rattle.words.proofs.start_of.Reads as start-of-reads
 use Rattle.words.proofs.width.Reads as width-reads
 use Rattle.trees.proofs.Reaching.{lower}
 use Rattle.trees.proofs.span.Reads as span-reads
-use Rattle.tails.proofs.Room.{address-room}
 use Rattle.plans.specs.Onto.{onto}
 use Rattle.plans.proofs.Laying as Laying
 use Rattle.plans.proofs.cell_on.Reads as cell-on-reads
@@ -150,7 +149,7 @@ module _ (t : ℕ) where
         omega (arith, s .pre .0),
         (
           lower (s .pre .1 .0),
-          rw d (address-room (s .pre .1 .0 .width) (x .cell-on .result) (omega arith)),
+          rw d (Widths.address-room (s .pre .1 .0 .width) (x .cell-on .result) (omega arith)),
           s .pre .1 .2,
           omega (arith, s .pre .1 .3, l .loop .inv .1, mul-le-mul-left W low),
           omega (arith, mul-le-mul-left W pages, rw need at (s .pre .1 .4)),

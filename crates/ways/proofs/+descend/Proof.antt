@@ -15,7 +15,6 @@ use Rattle.trees.proofs.Reaching.{lower}
 use Rattle.trees.proofs.span.Reads as span-reads
 use Rattle.plans.proofs.cell_on.Reads as cell-on-reads
 use Rattle.building.proofs.minus.Reads as minus-reads
-use Rattle.tails.proofs.Room.{address-room}
 use Rattle.ways.proofs.Descents.{lies, at-data, at-null, at-wide, down}
 use Rattle.ways.proofs.descend.Reads as descend
 use Rattle.ways.proofs.descend.Kinds as kinds
@@ -88,7 +87,7 @@ module _ (t : ℕ) where
     (
       lower (s .pre .1 .0),
       s .pre .1 .1,
-      rw (c .before .before .block-of .ensures) (address-room (s .pre .1 .0 .width) (c .before .before .before .cell-on .result) (omega arith)),
+      rw (c .before .before .block-of .ensures) (Widths.address-room (s .pre .1 .0 .width) (c .before .before .before .cell-on .result) (omega arith)),
       in-child (c .before .before .before .before .before) .1,
       s .pre .1 .4,
     ),

@@ -3,9 +3,9 @@ use Prim.Native.Nat.{ℕ, _+_, _*_, _^_, _≤_}
 use native.Mathlib.Omega.{arith}
 use borrow.Author.Needs.{needs}
 use Rattle.model.specs.Layout.{layoutOf}
+use Rattle.words.proofs.Widths as Widths
 use Rattle.kinds.proofs.Figures.{small-sizes}
 use Rattle.plans.specs.Onto.{onto}
-use Rattle.tails.proofs.Room.{address-room}
 use Rattle.ways.proofs.Ways as Ways
 use Rattle.ways.proofs.append.Statement.{statement}
 use Rattle.ways.proofs.append.Tie as tie
@@ -33,7 +33,7 @@ add-p c = omega (arith, place (c .before .before .before .before .before), c .st
 in-place-requires : tie.Need-in-place-requires
 in-place-requires c κs = let s = c .before .before .before .before .before .before .before .before .before .before .before .before .before .before .before .before .before in let h = c .before .before .before .before .before .before .before .before .before .before .before in let k = c .before .before .before .before .before .before .before .before .before .before in let t = c .before .before .before .before .before .before .before in
     Ways.may-store (s .pre .1) (seen s) (h .low-of .result) (k .block-of .result) (s .args .inode .size) (low h) (t .tail-pages .last .1 .1 .1 .1 .1 .0) (s .args .inode .at) _ (t .tail-pages .kept .1 .1 .1 .1 .1 .0)
-    (rw (k .block-of .ensures) (address-room (s .pre .1 .wide .width) (s .args .inode .root) (omega (arith, s .good)))) (omega (arith, place t, c .before .before .start-of .ensures))
+    (rw (k .block-of .ensures) (Widths.address-room (s .pre .1 .wide .width) (s .args .inode .root) (omega (arith, s .good)))) (omega (arith, place t, c .before .before .start-of .ensures))
 
 start-of-requires-2 : tie.Need-start-of-requires-2
 start-of-requires-2 c κs = let s = c .before .before .before .before .before .before .before .before .before .before .before .before .before .before .before .before .before .before .before .before .before .before in (omega (arith, s .pre .1 .wide .width .high), omega (arith, s .pre .1 .place))

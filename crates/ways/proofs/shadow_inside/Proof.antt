@@ -9,7 +9,6 @@ use Rattle.words.proofs.Widths as Widths
 use Rattle.kinds.proofs.Figures.{reach, small-sizes}
 use Rattle.plans.specs.Onto.{onto}
 use Rattle.building.proofs.Taken as Taken
-use Rattle.tails.proofs.Room.{address-room}
 use Rattle.ways.proofs.Ways as Ways
 use Rattle.ways.proofs.shadow_inside.Statement.{statement}
 use Rattle.ways.proofs.shadow_inside.Tie as tie
@@ -25,7 +24,7 @@ descend-requires : tie.Need-descend-requires
 descend-requires c κs = let s = c .before .before .before .before .before .before .before in let r = s .pre .1 in let h = c .before in (
   reach (s .args .kind) (r .wide) (root-low h),
   r .pointers,
-  rw (c .block-of .ensures) (address-room (r .wide .width) (s .args .inode .root) (omega (arith, s .good))),
+  rw (c .block-of .ensures) (Widths.address-room (r .wide .width) (s .args .inode .root) (omega (arith, s .good))),
   omega (arith, r .some, rw (r .wide .is, ← h .low-of .ensures) at (r .spans (s .pre .0))),
   omega (arith, r .end, small-sizes (s .args .kind)),
 )
