@@ -1,25 +1,27 @@
 // A board of some kind: where its words stand, and whether its word count and its trailer are as they must be.
 use kinds::bits;
-use kinds::inode_bits;
+use kinds::block_in;
+use kinds::inode_in;
+use kinds::leaf_in;
+use kinds::low_in;
 use kinds::mark;
 use kinds::most;
+use kinds::start_in;
+use kinds::words_in;
 use model::Kind;
-use words::block_of;
 use words::cell;
-use words::low_of;
-use words::start_of;
-use words::width;
 ghost use mathlib.Core.Path.{_≡_};
-ghost use Prim.Native.Nat.{_-_};
+ghost use Prim.Native.Nat.{_+_, _-_, _<_};
+ghost use lib.ListN.{getD};
 ghost use Rattle.model.specs.Layout.{layoutOf};
-ghost use Rattle.model.specs.Board.{trailerWord, blockCount, trailer, inodePointer, root, size, wordCountSound, trailerSound};
+ghost use Rattle.model.specs.Board.{trailerWord, blockCount, trailer, inodePointer, rootAddress, root, size, wordCountSound, trailerSound};
 ghost use Rattle.boards.specs.Trailers.{trailerWordsSound};
 
 // The number of blocks.
 pub fn block_count(kind: Kind, board: &[u64]) -> u64
     ensures { λ r. ⌜ r ≡ blockCount (layoutOf kind) (now (board .entry)) ⌝ }
 {
-    block_of(bits(kind), board.len() as u64)
+    block_in(kind, board.len() as u64)
 }
 
 // The last block, the trailer. Those that files may use lie below it.
@@ -41,43 +43,45 @@ pub fn trailer(kind: Kind, board: &[u64], j: u64) -> u64
 pub fn inode_pointer(kind: Kind, board: &[u64], l: u64) -> u64
     ensures { λ r. ⌜ r ≡ inodePointer (layoutOf kind) (now (board .entry)) l ⌝ }
 {
-    let b = bits(kind);
-    cell(b, board, block_of(b, trailer(kind, board, 0)), l)
+    let k = block_in(kind, trailer(kind, board, 0));
+    cell(bits(kind), board, k, l)
+}
+
+// A word of a file's inode: 0 the root, 1 the size.
+fn inode_word(kind: Kind, board: &[u64], f: u64, j: u64) -> u64
+    requires { ⌜ j < 2 ⌝ }
+    ensures { λ r. ⌜ r ≡ getD (now (board .entry)) (rootAddress (layoutOf kind) (now (board .entry)) f + j) 0 ⌝ }
+{
+    let k = block_in(kind, inode_pointer(kind, board, leaf_in(kind, f)));
+    cell(bits(kind), board, k, 2 * inode_in(kind, f) + j)
 }
 
 // The root word of a file.
 pub fn root(kind: Kind, board: &[u64], f: u64) -> u64
     ensures { λ r. ⌜ r ≡ root (layoutOf kind) (now (board .entry)) f ⌝ }
 {
-    let b = bits(kind);
-    let i = inode_bits(kind);
-    let p = inode_pointer(kind, board, block_of(i, f));
-    cell(b, board, block_of(b, p), 2 * low_of(i, f))
+    inode_word(kind, board, f, 0)
 }
 
 // The size of a file.
 pub fn size(kind: Kind, board: &[u64], f: u64) -> u64
     ensures { λ r. ⌜ r ≡ size (layoutOf kind) (now (board .entry)) f ⌝ }
 {
-    let b = bits(kind);
-    let i = inode_bits(kind);
-    let p = inode_pointer(kind, board, block_of(i, f));
-    cell(b, board, block_of(b, p), 2 * low_of(i, f) + 1)
+    inode_word(kind, board, f, 1)
 }
 
 // Whether the board has 16 blocks to the most of its kind, and no part of one.
 pub fn word_count_sound(kind: Kind, board: &[u64]) -> bool
     ensures { λ r. ⌜ r ≡ wordCountSound (layoutOf kind) (now (board .entry)) ⌝ }
 {
-    let b = bits(kind);
     let n = board.len() as u64;
-    if n < start_of(b, 16) {
+    if n < start_in(kind, 16) {
         return false;
     }
-    if start_of(b, most(kind)) < n {
+    if start_in(kind, most(kind)) < n {
         return false;
     }
-    low_of(b, n) == 0
+    low_in(kind, n) == 0
 }
 
 // What word j of the trailer must be, from word 1 on, on a board of so many blocks.
@@ -96,7 +100,7 @@ pub fn trailer_word(kind: Kind, blocks: u64, j: u64) -> u64
 pub fn trailer_words_sound(kind: Kind, board: &[u64]) -> bool
     ensures { λ r. ⌜ r ≡ trailerWordsSound (layoutOf kind) (now (board .entry)) ⌝ }
 {
-    let n = width(bits(kind)) - 1;
+    let n = words_in(kind) - 1;
     let mut j = 0;
     while j < n {
         if trailer(kind, board, j + 1) != trailer_word(kind, block_count(kind, board), j + 1) {
@@ -111,12 +115,11 @@ pub fn trailer_words_sound(kind: Kind, board: &[u64]) -> bool
 pub fn trailer_sound(kind: Kind, board: &[u64]) -> bool
     ensures { λ r. ⌜ r ≡ trailerSound (layoutOf kind) (now (board .entry)) ⌝ }
 {
-    let b = bits(kind);
     let p = trailer(kind, board, 0);
-    if low_of(b, p) != 1 {
+    if low_in(kind, p) != 1 {
         return false;
     }
-    let k = block_of(b, p);
+    let k = block_in(kind, p);
     if k == 0 {
         return false;
     }

@@ -13,6 +13,12 @@ pub record InodeBits (kind : Kind) (r : ℕ) : Type 0 where
   pub is : layoutOf kind .inodes ≡ 2 ^ r
   pub small : r ≤ 5
 
+-- the words of a block
+pub record Words (kind : Kind) (r : ℕ) : Type 0 where
+  pub is : r ≡ layoutOf kind .words
+  pub least : 8 ≤ r
+  pub most : r ≤ 512
+
 pub record Most (kind : Kind) (r : ℕ) : Type 0 where
   pub is : r ≡ layoutOf kind .most
   pub small : r ≤ 1024

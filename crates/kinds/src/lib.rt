@@ -4,12 +4,13 @@ use model::Kind;
 use words::block_of;
 use words::low_of;
 use words::start_of;
+use words::width;
 ghost use mathlib.Core.Path.{_≡_};
 ghost use Prim.Native.Nat.{_*_, _/_, _%_, _^_, _≤_, _<_};
 ghost use Rattle.model.specs.Layout.{layoutOf};
 ghost use Rattle.model.specs.Tree.{least};
 ghost use Rattle.model.specs.Board.{greatest};
-ghost use Rattle.kinds.specs.Figures.{Bits, InodeBits, Most};
+ghost use Rattle.kinds.specs.Figures.{Bits, InodeBits, Words, Most};
 
 // A block has 2 ^ bits words.
 pub fn bits(kind: Kind) -> u64
@@ -100,6 +101,13 @@ pub fn height_in(kind: Kind, e: u64) -> u64
         Kind::House => least_height(e),
         Kind::Published => published_height(e),
     }
+}
+
+// The words of a block.
+pub fn words_in(kind: Kind) -> u64
+    ensures { λ r. ⌜ Words kind r ⌝ }
+{
+    width(bits(kind))
 }
 
 // The block of a pointer.

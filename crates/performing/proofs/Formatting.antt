@@ -4,7 +4,7 @@ use mathlib.Core.Bool.{Bool, true, false}
 use mathlib.Core.List.{List, [], _∷_, _++_, append-assoc, append-nil}
 use Prim.Native.Nat.{ℕ, zero, suc, _+_, _-_, _*_, _/_, _^_, _≤_, _<_}
 use native.Mathlib.Omega.{arith}
-use native.Mathlib.Nat.{add-zero, add-suc, suc-add, mul-one}
+use native.Mathlib.Nat.{add-zero, add-suc, suc-add, mul-one, mul-add, mul-le-mul, mul-le-mul-left, mul-le-mul-right}
 use native.Mathlib.Numerals.{add-one}
 use lib.ListN.{length, replicate}
 use borrow.Author.Tests.{le-ltb, lt-ltb}
@@ -12,7 +12,6 @@ use Rattle.model.specs.declared.Fault.the-variants.{WordCount, PlanLength}
 use Rattle.model.specs.declared.Answer.the-variants.{Done, Refused}
 use Rattle.model.specs.Lists.{tabulate}
 use Rattle.model.specs.declared.Kind.{Kind}
-use Rattle.model.specs.declared.Kind.the-variants.{House, Published}
 use Rattle.model.specs.Layout.{Layout, Fits, layoutOf}
 use Rattle.model.specs.Board.{blockCount, trailerWord, wordCountSound}
 use Rattle.model.specs.Store.{Store, store, barrier, fenced, laid}
@@ -23,31 +22,30 @@ use Rattle.model.specs.Answers.{answered}
 use Rattle.model.specs.Calls.{wordCountFault, format}
 use Rattle.model.proofs.Perform.{length-tabulate, pageStore, length-stored}
 use Rattle.model.proofs.Formatted.{clears, commits, trailerStore, pages, filling, length-pages, format-epochs, format-pairs}
-use Rattle.kinds.proofs.Figures.{fits}
-use Rattle.plans.specs.Laying.{blockStores, Laid}
+use Rattle.kinds.proofs.Figures.{fits, few-words, block-room}
+use Rattle.plans.specs.Laying.{blockStores, Laid, PlanResult}
 use Rattle.plans.proofs.Laying as Laying
-use Rattle.plans.specs.Laying.{PlanResult}
 use Rattle.plans.proofs.Refusing.{turned, too-short, long-enough}
 
 -- ---- The figures of each kind
 
-pub few-leaves : (kind : Kind) → layoutOf kind .leaves ≤ 8
-few-leaves House = omega arith
-few-leaves Published = omega arith
+-- at most 13 leaves, and the place of the first trailer word
+pub few-leaves : (kind : Kind) → layoutOf kind .leaves ≤ 13
+few-leaves kind = omega (arith, fits kind .format-fits)
 
-pub small-place : (kind : Kind) → 2 + layoutOf kind .words * (1 + layoutOf kind .leaves) ≤ 1026
-small-place House = omega arith
-small-place Published = omega arith
+pub small-place : (kind : Kind) → 2 + layoutOf kind .words * (1 + layoutOf kind .leaves) ≤ 7170
+small-place kind = let l : 1 + layoutOf kind .leaves ≤ 14 = omega (arith, few-leaves kind) in omega (arith, mul-le-mul (few-words kind) l)
 
 -- the trailer's words have addresses
-pub trailer-room : (kind : Kind) (n : ℕ) → n < 2 ^ 64 → layoutOf kind .words * (n / layoutOf kind .words - 1) + layoutOf kind .words < 2 ^ 64
-trailer-room House n l = omega arith
-trailer-room Published n l = omega arith
+pub trailer-room : (kind : Kind) (n : ℕ) → n < 2 ^ 64 → layoutOf kind .words * (n / layoutOf kind .words - 1) + layoutOf kind .words ≤ 2 ^ 64
+trailer-room kind n l =
+    let W = layoutOf kind .words in
+    let before : n / W - 1 ≤ n / W = omega arith in
+    omega (arith, block-room kind n l, mul-le-mul-left W before)
 
 -- so have the leaves
 pub pointer-room : (kind : Kind) (j : ℕ) → j < layoutOf kind .leaves → layoutOf kind .words * (2 + j) < 2 ^ 64
-pointer-room House j l = omega arith
-pointer-room Published j l = omega arith
+pointer-room kind j l = omega (arith, mul-le-mul-right (2 + j) (few-words kind), few-leaves kind)
 
 -- ---- The inode pointers and the leaves
 
@@ -108,7 +106,7 @@ module _ (g : Layout) where
   unfolding inodePage
   word-none {j} {n} en l = rw (le-ltb j (g .leaves) (omega arith))
 
-  pub inodes-laid : (plan : List ℕ) {plan₁ plan₂ : List ℕ} → plan₁ ≡ laid plan 2 (stored (g .words) (λ c. c) (inodePage g ∷ []) 1)
+  inodes-laid : (plan : List ℕ) {plan₁ plan₂ : List ℕ} → plan₁ ≡ laid plan 2 (stored (g .words) (λ c. c) (inodePage g ∷ []) 1)
       → plan₂ ≡ laid plan₁ (2 + g .words) (leaves (g .words) (g .leaves) 2)
       → plan₂ ≡ laid plan 2 (stored (g .words) (λ c. c) (formatPages g) 1)
   unfolding stored formatPages
@@ -192,5 +190,4 @@ module _ (kind : Kind) (b : List ℕ) where
 -- the count by its parts
 pub whole : (kind : Kind) {p w : ℕ} → p ≡ 2 + layoutOf kind .words * (1 + layoutOf kind .leaves) → w ≡ layoutOf kind .words
     → p + w + 1 ≡ layoutOf kind .words * (layoutOf kind .leaves + 2) + 3
-whole House e f = omega arith
-whole Published e f = omega arith
+whole kind e f = let g = layoutOf kind in omega (arith, e, f, mul-add (g .words) 1 (g .leaves), mul-add (g .words) (g .leaves) 2)

@@ -6,6 +6,7 @@ use boards::word_count_sound;
 use kinds::bits;
 use kinds::leaf_count;
 use kinds::start_in;
+use kinds::words_in;
 use model::Answer;
 use model::Fault;
 use model::Kind;
@@ -13,12 +14,11 @@ use plans::barrier;
 use plans::block;
 use plans::pair;
 use words::put;
-use words::width;
 use words::word;
 ghost use mathlib.Core.Path.{_≡_};
 ghost use mathlib.Core.Bool.{_||_};
 ghost use mathlib.Core.List.{[], _∷_};
-ghost use Prim.Native.Nat.{_+_, _*_, _≤_, _<_};
+ghost use Prim.Native.Nat.{_+_, _*_, _≤_};
 ghost use lib.ListN.{length, replicate, take};
 ghost use lib.Dec.{ltb};
 ghost use Rattle.model.specs.Lists.{all};
@@ -29,7 +29,7 @@ ghost use Rattle.model.specs.Fresh.{stored};
 ghost use Rattle.model.specs.Format.{inodePage, trailerStores, formatPlan};
 ghost use Rattle.model.specs.Calls.{format};
 ghost use Rattle.plans.specs.Laying.{PlanResult};
-ghost use Rattle.performing.specs.Results.{PerformResult, Words, Place};
+ghost use Rattle.performing.specs.Results.{PerformResult, Place};
 
 // Whether each of the first k addresses of a plan is on a board of so many words or a barrier's.
 fn addresses_sound(words: u64, plan: &[u64], k: u64) -> bool
@@ -86,22 +86,15 @@ pub fn perform(board: &mut [u64], plan: &[u64], pairs: u64) -> Answer
     perform_kind(Kind::House, board, plan, pairs)
 }
 
-// The words of a block.
-fn words_of(kind: Kind) -> u64
-    ensures { λ r. ⌜ Words kind r ⌝ }
-{
-    width(bits(kind))
-}
-
 // How many pairs of format's plan come before the trailer's words.
 fn trailer_place(kind: Kind) -> u64
     ensures { λ r. ⌜ Place kind r ⌝ }
 {
-    2 + words_of(kind) * (1 + leaf_count(kind))
+    2 + words_in(kind) * (1 + leaf_count(kind))
 }
 
 // Word j of the inode pointer block of a new board: its leaves lie from block 2 on.
-fn inode_word(kind: Kind, j: u64) -> u64
+fn pointer_word(kind: Kind, j: u64) -> u64
     ensures { λ r. ⌜ r ≡ inodePage (layoutOf kind) j ⌝ }
 {
     if j < leaf_count(kind) {
@@ -114,10 +107,10 @@ fn inode_word(kind: Kind, j: u64) -> u64
 fn lay_pointers(kind: Kind, plan: &mut [u64])
     ensures { λ _. ⌜ now (plan .exit) ≡ laid (now (plan .entry)) 2 (stored (layoutOf kind .words) (λ c. c) (inodePage (layoutOf kind) ∷ []) 1) ⌝ }
 {
-    let w = words_of(kind);
+    let w = words_in(kind);
     let mut j = 0;
     while j < w {
-        pair(plan, 2 + j, w + j, inode_word(kind, j));
+        pair(plan, 2 + j, w + j, pointer_word(kind, j));
         j += 1;
     }
 }
@@ -127,7 +120,7 @@ fn lay_leaves(kind: Kind, plan: &mut [u64])
     ensures { λ _. ⌜ now (plan .exit) ≡ laid (now (plan .entry)) (2 + layoutOf kind .words) (stored (layoutOf kind .words) (λ c. c) (replicate (layoutOf kind .leaves) (λ j. 0)) 2) ⌝ }
 {
     let b = bits(kind);
-    let w = words_of(kind);
+    let w = words_in(kind);
     let n = leaf_count(kind);
     let none = [0u64; 0];
     let mut l = 0;
@@ -144,7 +137,7 @@ fn lay_trailer(kind: Kind, board: &[u64], plan: &mut [u64])
     let blocks = block_count(kind, board);
     let at = start_in(kind, last(kind, board));
     let p = trailer_place(kind);
-    let n = words_of(kind) - 1;
+    let n = words_in(kind) - 1;
     let mut j = 0;
     while j < n {
         pair(plan, p + j, at + j + 1, trailer_word(kind, blocks, j + 1));
@@ -157,7 +150,7 @@ fn lay_format(kind: Kind, board: &[u64], plan: &mut [u64])
     ensures { λ _. ⌜ now (plan .exit) ≡ laid (now (plan .entry)) 0 (pairs (formatPlan (layoutOf kind) (now (board .entry)))) ⌝ }
 {
     let at = start_in(kind, last(kind, board));
-    let w = words_of(kind);
+    let w = words_in(kind);
     let p = trailer_place(kind) + w;
     pair(plan, 0, at, 0);
     barrier(plan, 1);
@@ -175,7 +168,7 @@ fn format_kind(kind: Kind, board: &[u64], plan: &mut [u64]) -> Answer
     if !word_count_sound(kind, board) {
         return Answer::Refused(Fault::WordCount);
     }
-    let n = trailer_place(kind) + words_of(kind) + 1;
+    let n = trailer_place(kind) + words_in(kind) + 1;
     if (plan.len() as u64) < 2 * n {
         return Answer::Refused(Fault::PlanLength);
     }

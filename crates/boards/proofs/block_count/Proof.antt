@@ -1,12 +1,11 @@
 use borrow.Author.Needs.{needs}
-use mathlib.Core.Path.{_∙_}
 use Rattle.model.specs.Board.{blockCount}
 use Rattle.boards.proofs.block_count.Statement.{statement}
 use Rattle.boards.proofs.block_count.Tie as tie
 
 returns : tie.Need-returns
 unfolding blockCount
-returns c = c .block-of .ensures ∙ rw (c .before .bits .ensures .is)
+returns c = c .block-in .ensures
 
 pub block-count-spec : {M : Type 1} → statement M
-block-count-spec = tie.close (tie.spec (λ c κs. search needs) (λ c κs. search needs) returns)
+block-count-spec = tie.close (tie.spec (λ c κs. search needs) returns)

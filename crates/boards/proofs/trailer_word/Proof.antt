@@ -1,11 +1,10 @@
 use mathlib.Core.Path.{_≡_, refl}
 use mathlib.Core.Logic.{_≢_}
-use Prim.Native.Nat.{ℕ, zero, suc, _*_}
+use Prim.Native.Nat.{ℕ, zero, suc}
 use borrow.Author.Needs.{needs}
-use Rattle.model.specs.declared.Kind.{Kind}
-use Rattle.model.specs.declared.Kind.the-variants.{House, Published}
-use Rattle.model.specs.Layout.{Layout, layoutOf, files}
+use Rattle.model.specs.Layout.{Layout}
 use Rattle.model.specs.Board.{trailerWord}
+use Rattle.kinds.proofs.Figures.{files-32}
 use Rattle.boards.proofs.trailer_word.Statement.{statement}
 use Rattle.boards.proofs.trailer_word.Tie as tie
 
@@ -17,15 +16,9 @@ other g B (suc (suc zero)) a b c = absurd (b refl)
 other g B (suc (suc (suc zero))) a b c = absurd (c refl)
 other g B (suc (suc (suc (suc j)))) a b c = refl
 
--- the bytes of inodes
-inodes : (kind : Kind) → 512 ≡ 16 * files (layoutOf kind)
-unfolding files
-inodes House = refl
-inodes Published = refl
-
 returns : tie.Need-returns
 unfolding trailerWord
-returns c = rw (c .match .keys1) (inodes (c .before .args .kind))
+returns c = rw (c .match .keys1, files-32 (c .before .args .kind))
 
 returns-2 : tie.Need-returns-2
 unfolding trailerWord

@@ -1,5 +1,5 @@
 use borrow.Author.Needs.{needs}
-use mathlib.Core.Path.{_≡_, refl, sym, ap, _∙_}
+use mathlib.Core.Path.{_≡_, refl, sym, _∙_}
 use mathlib.Core.Bool.{Bool, true}
 use mathlib.Core.List.{List}
 use Prim.Native.Nat.{ℕ, suc, _+_, _-_, _≤_}
@@ -29,32 +29,31 @@ abbrev μ-loop : tie.MeasureT-loop
 μ-loop kind board n j₀ j = n - j
 
 -- so many words the trailer has
-all : (c : tie.After-width Inv-loop μ-loop) → let a = c .before .before .before .args in let f = right (layoutOf (a .kind)) (a .board .now) in
-    every (layoutOf (a .kind) .words - 1) f ≡ every (c .width .result - 1) f
-all c = let a = c .before .before .before .args in
-    ap (λ (m : ℕ). every (m - 1) (right (layoutOf (a .kind)) (a .board .now))) (c .before .bits .ensures .is ∙ sym (c .width .ensures .is))
+all : (c : tie.After-words-in Inv-loop μ-loop) → let a = c .before .before .args in let f = right (layoutOf (a .kind)) (a .board .now) in
+    every (layoutOf (a .kind) .words - 1) f ≡ every (c .words-in .result - 1) f
+all c = rw (c .words-in .ensures .is)
 
 loop-holds : tie.Need-loop-holds Inv-loop μ-loop
 unfolding every
 loop-holds c = (omega arith, refl)
 
 returns : tie.Need-returns Inv-loop μ-loop
-returns c = let l = c .before .before .before .before .before in let a = l .before .before .before .before .args in let g = layoutOf (a .kind) in
-    sym (all (l .before) ∙ every-fails (l .before .width .result - 1) (l .loop .j) (right g (a .board .now)) (c .before .before .before .before .loop-test .taken)
+returns c = let l = c .before .before .before .before .before in let a = l .before .before .before .args in let g = layoutOf (a .kind) in
+    sym (all (l .before) ∙ every-fails (l .before .words-in .result - 1) (l .loop .j) (right g (a .board .now)) (c .before .before .before .before .loop-test .taken)
     (told g (a .board .now) (l .loop .j) (c .before .before .before .trailer .ensures) (c .before .before .block-count .ensures) (c .before .trailer-word .ensures) ∙ ne-eqb _ _ (c .if1 .taken)))
 
 loop-again : tie.Need-loop-again Inv-loop μ-loop
-loop-again c = let l = c .before .before .before .before .before in let a = l .before .before .before .before .args in let g = layoutOf (a .kind) in (
+loop-again c = let l = c .before .before .before .before .before in let a = l .before .before .before .args in let g = layoutOf (a .kind) in (
   omega arith,
   every-more (l .loop .j) (right g (a .board .now)) (l .loop .inv .1)
       (told g (a .board .now) (l .loop .j) (c .before .before .before .trailer .ensures) (c .before .before .block-count .ensures) (c .before .trailer-word .ensures) ∙ eq-eqb _ _ (c .if1 .left)),
 )
 
 returns-2 : tie.Need-returns-2 Inv-loop μ-loop
-returns-2 c = let l = c .before in let e : l .loop .j ≡ l .before .width .result - 1 = omega arith in sym (all (l .before) ∙ rw e at (l .loop .inv .1))
+returns-2 c = let l = c .before in let e : l .loop .j ≡ l .before .words-in .result - 1 = omega arith in sym (all (l .before) ∙ rw e at (l .loop .inv .1))
 
 pub trailer-words-sound-spec : {M : Type 1} → statement M
 trailer-words-sound-spec =
-    tie.close (tie.spec Inv-loop μ-loop (λ c κs. search needs) (λ c κs. search needs) (λ c. search needs) loop-holds (λ c. search needs) (λ c κs. search needs)
+    tie.close (tie.spec Inv-loop μ-loop (λ c κs. search needs) (λ c. search needs) loop-holds (λ c. search needs) (λ c κs. search needs)
     (λ c κs. search needs) (λ c. search needs)
     (λ c κs. search needs) returns (λ c. search needs) (λ c. search needs) loop-again returns-2)

@@ -14,7 +14,7 @@ returns-2 c =
     let w = c .before in
     let i = w .before .before in
     let a = i .before .before .before .before .args in
-    let n = whole (a .kind) (w .before .trailer-place .ensures .is) (w .words-of .ensures .is) in
+    let n = whole (a .kind) (w .before .trailer-place .ensures .is) (w .words-in .ensures .is) in
     short (a .kind) (a .board .now) (i .before .word-count-sound .ensures) (not-false _ (i .if1 .left)) _ n (c .if2 .taken)
 
 returns-3 : tie.Need-returns-3
@@ -24,7 +24,7 @@ returns-3 c =
     let w = f .before in
     let i = w .before .before in
     let a = i .before .before .before .before .args in
-    let n = whole (a .kind) (w .before .trailer-place .ensures .is) (w .words-of .ensures .is) in
+    let n = whole (a .kind) (w .before .trailer-place .ensures .is) (w .words-in .ensures .is) in
     done (a .kind) (a .board .now) (i .before .word-count-sound .ensures) (not-false _ (i .if1 .left)) _ n (a .plan .now) (f .if2 .left) (t .lay-format .ensures)
 
 pub format-kind-spec : {M : Type 1} → statement M

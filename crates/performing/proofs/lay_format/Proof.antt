@@ -5,14 +5,14 @@ use Prim.Native.Nat.{ℕ, _+_}
 use lib.ListN.{length}
 use Rattle.model.specs.Layout.{layoutOf}
 use Rattle.model.specs.Board.{blockCount}
-use Rattle.kinds.proofs.Figures.{fits}
+use Rattle.kinds.proofs.Figures.{fits, words-pos}
 use Rattle.performing.proofs.Formatting.{format-laid, trailer-room}
 use Rattle.performing.proofs.lay_format.Statement.{statement}
 use Rattle.performing.proofs.lay_format.Tie as tie
 
 start-in-requires : tie.Need-start-in-requires
 unfolding blockCount
-start-in-requires c κs = let a = c .before .before .before .args in rw (c .last .ensures) (omega (arith, trailer-room (a .kind) (length (a .board .now)) (omega arith)))
+start-in-requires c κs = let a = c .before .before .before .args in rw (c .last .ensures) (omega (arith, words-pos (a .kind), trailer-room (a .kind) (length (a .board .now)) (omega arith)))
 
 returns : tie.Need-returns
 returns c =
@@ -28,8 +28,8 @@ returns c =
     let k = w .before .before in
     let a = k .before .before .before .args in
     let p : ℕ = t .trailer-place .result in
-    format-laid (layoutOf (a .kind)) (fits (a .kind)) (a .board .now) (a .plan .now) p (p + w .words-of .result) (k .last .ensures) (w .before .start-in .ensures)
-    (ap (λ (x : ℕ). x + 1) (w .words-of .ensures .is)) (t .trailer-place .ensures .is) (ap (λ (x : ℕ). p + x) (w .words-of .ensures .is)) (s₁ .pair .ensures) (s₂ .barrier .ensures)
+    format-laid (layoutOf (a .kind)) (fits (a .kind)) (a .board .now) (a .plan .now) p (p + w .words-in .result) (k .last .ensures) (w .before .start-in .ensures)
+    (ap (λ (x : ℕ). x + 1) (w .words-in .ensures .is)) (t .trailer-place .ensures .is) (ap (λ (x : ℕ). p + x) (w .words-in .ensures .is)) (s₁ .pair .ensures) (s₂ .barrier .ensures)
     (s₃ .lay-pointers .ensures) (s₄ .lay-leaves .ensures) (s₅ .lay-trailer .ensures) (s₆ .barrier2 .ensures) (s₇ .pair2 .ensures)
 
 pub lay-format-spec : {M : Type 1} → statement M

@@ -18,20 +18,20 @@ abbrev μ-loop : tie.MeasureT-loop
 μ-loop plan₀ b w n none l₀ plan l = n - l
 
 loop-holds : tie.Need-loop-holds Inv-loop μ-loop
-loop-holds c = let w = c .before .words-of .result in let e : 2 + w + w * 0 ≡ 2 + w = omega (arith, mul-zero w) in (search needs, rw e (leaves-none w))
+loop-holds c = let w = c .before .words-in .result in let e : 2 + w + w * 0 ≡ 2 + w = omega (arith, mul-zero w) in (search needs, rw e (leaves-none w))
 
 -- the leaves are few, so that what the code multiplies is small
-few : (c : tie.At-loop Inv-loop μ-loop) → c .loop .l ≤ 8
+few : (c : tie.At-loop Inv-loop μ-loop) → c .loop .l ≤ 13
 few c = let n = c .before in omega (arith, c .loop .inv .0, n .leaf-count .ensures, few-leaves (n .before .before .before .before .args .kind))
 
-small : (c : tie.At-loop Inv-loop μ-loop) → c .before .before .words-of .result * c .loop .l ≤ 512 * 8
-small c = mul-le-mul (c .before .before .words-of .ensures .most) (few c)
+small : (c : tie.At-loop Inv-loop μ-loop) → c .before .before .words-in .result * c .loop .l ≤ 512 * 13
+small c = mul-le-mul (c .before .before .words-in .ensures .most) (few c)
 
 mul-block : tie.Need-mul-block Inv-loop μ-loop
 mul-block c = omega (arith, small (c .before .before))
 
 add-block-2 : tie.Need-add-block-2 Inv-loop μ-loop
-add-block-2 c = let l = c .before .before in omega (arith, small l, l .before .before .words-of .ensures .most)
+add-block-2 c = let l = c .before .before in omega (arith, small l, l .before .before .words-in .ensures .most)
 
 add-block-3 : tie.Need-add-block-3 Inv-loop μ-loop
 add-block-3 c = omega (arith, few (c .before .before))
@@ -44,8 +44,8 @@ loop-again c =
     let s = c .before .before in
     let l = s .before .before .before .before in
     let v = l .before .before in
-    let w = v .words-of .result in
-    let e = sym (v .words-of .ensures .is ∙ v .before .bits .ensures .is) in
+    let w = v .words-in .result in
+    let e = sym (v .words-in .ensures .is ∙ v .before .bits .ensures .is) in
     let next : 2 + w + w * (l .loop .l + 1) ≡ 2 + w + w * l .loop .l + w = omega (arith, mul-suc w (l .loop .l)) in
     (search needs, rw next (leaves-more w (l .loop .l) (l .loop .inv .1) refl (rw e at (s .block .ensures))))
 
@@ -58,7 +58,7 @@ returns c =
     let n = l .before in
     let w = n .before in
     let all : l .loop .l ≡ layoutOf (w .before .before .before .args .kind) .leaves = omega (arith, n .leaf-count .ensures) in
-    rw (← w .words-of .ensures .is, ← all) (l .loop .inv .1 .is)
+    rw (← w .words-in .ensures .is, ← all) (l .loop .inv .1 .is)
 
 pub lay-leaves-spec : {M : Type 1} → statement M
 lay-leaves-spec =

@@ -26,7 +26,7 @@ loop-again c =
     let l = s .before .before .before .before in
     let w = l .before in
     let a = w .before .before .args in
-    (search needs, pointers-more (layoutOf (a .kind)) (a .plan .now) (l .loop .j) (w .words-of .ensures .is) (s .before .inode-word .ensures) (l .loop .inv .1) (s .pair .ensures))
+    (search needs, pointers-more (layoutOf (a .kind)) (a .plan .now) (l .loop .j) (w .words-in .ensures .is) (s .before .pointer-word .ensures) (l .loop .inv .1) (s .pair .ensures))
 
 same-length : tie.Need-same-length Inv-loop μ-loop
 same-length c = ap length (c .before .loop .inv .1) ∙ length-laid _ _ _
@@ -36,7 +36,7 @@ returns c =
     let l = c .before in
     let w = l .before in
     let a = w .before .before .args in
-    let all : l .loop .j ≡ layoutOf (a .kind) .words = omega (arith, w .words-of .ensures .is) in
+    let all : l .loop .j ≡ layoutOf (a .kind) .words = omega (arith, w .words-in .ensures .is) in
     pointers-all (layoutOf (a .kind)) (a .plan .now) all (l .loop .inv .1)
 
 pub lay-pointers-spec : {M : Type 1} → statement M

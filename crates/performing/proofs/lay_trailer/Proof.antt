@@ -1,5 +1,5 @@
 use mathlib.Core.Path.{_≡_, ap, _∙_}
-use Prim.Native.Nat.{ℕ, _+_, _-_, _*_, _^_, _≤_, _<_}
+use Prim.Native.Nat.{ℕ, _+_, _-_, _*_, _^_, _≤_}
 use native.Mathlib.Omega.{arith}
 use native.Mathlib.Nat.{add-zero}
 use borrow.Author.Needs.{needs}
@@ -7,6 +7,7 @@ use lib.ListN.{length}
 use Rattle.model.specs.Layout.{layoutOf}
 use Rattle.model.specs.Board.{blockCount}
 use Rattle.model.specs.Format.{trailerStores}
+use Rattle.kinds.proofs.Figures.{words-pos}
 use Rattle.plans.specs.Laying.{Laid}
 use Rattle.plans.proofs.Laying as Laying
 use Rattle.performing.proofs.Formatting.{trailerPart, trailer-none, trailer-more, trailer-room}
@@ -24,7 +25,7 @@ start-in-requires : tie.Need-start-in-requires Inv-loop μ-loop
 unfolding blockCount
 start-in-requires c κs =
     let a = c .before .before .before .before .args in
-    rw (c .last .ensures) (omega (arith, trailer-room (a .kind) (length (a .board .now)) (omega arith)))
+    rw (c .last .ensures) (omega (arith, words-pos (a .kind), trailer-room (a .kind) (length (a .board .now)) (omega arith)))
 
 loop-holds : tie.Need-loop-holds Inv-loop μ-loop
 loop-holds c =
@@ -33,13 +34,13 @@ loop-holds c =
     (search needs, rw (add-zero (p .trailer-place .result)) (trailer-none (layoutOf (a .kind)) (a .board .now)))
 
 -- the trailer's words have addresses
-room : (c : tie.After-words-of Inv-loop μ-loop) → c .before .before .start-in .result + c .words-of .result < 2 ^ 64
+room : (c : tie.After-words-in Inv-loop μ-loop) → c .before .before .start-in .result + c .words-in .result ≤ 2 ^ 64
 unfolding blockCount
 room c =
     let s = c .before .before in
     let a = s .before .before .before .before .before .args in
     let e = s .start-in .ensures ∙ ap (λ (x : ℕ). layoutOf (a .kind) .words * x) (s .before .last .ensures) in
-    rw (e, c .words-of .ensures .is) (trailer-room (a .kind) (length (a .board .now)) (omega arith))
+    rw (e, c .words-in .ensures .is) (trailer-room (a .kind) (length (a .board .now)) (omega arith))
 
 add-pair-2 : tie.Need-add-pair-2 Inv-loop μ-loop
 add-pair-2 c = omega (arith, room (c .before .before .before), c .before .loop-test .taken)
@@ -71,7 +72,7 @@ returns c =
     let w = l .before in
     let p = w .before in
     let a = p .before .before .before .before .before .before .args in
-    let all : l .loop .j ≡ layoutOf (a .kind) .words - 1 = omega (arith, w .words-of .ensures .is) in
+    let all : l .loop .j ≡ layoutOf (a .kind) .words - 1 = omega (arith, w .words-in .ensures .is) in
     rw (← p .trailer-place .ensures .is, ← all) (l .loop .inv .1 .is)
 
 pub lay-trailer-spec : {M : Type 1} → statement M

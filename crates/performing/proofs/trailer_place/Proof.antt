@@ -7,8 +7,8 @@ use Rattle.performing.proofs.Formatting.{few-leaves, small-place}
 use Rattle.performing.proofs.trailer_place.Statement.{statement}
 use Rattle.performing.proofs.trailer_place.Tie as tie
 
-place : (c : tie.After-leaf-count) → Place (c .before .before .args .kind) (2 + c .before .words-of .result * (1 + c .leaf-count .result))
-place c = rw (c .before .words-of .ensures .is, c .leaf-count .ensures) (record { is = refl; most = small-place (c .before .before .args .kind) })
+place : (c : tie.After-leaf-count) → Place (c .before .before .args .kind) (2 + c .before .words-in .result * (1 + c .leaf-count .result))
+place c = rw (c .before .words-in .ensures .is, c .leaf-count .ensures) (record { is = refl; most = small-place (c .before .before .args .kind) })
 
 add-result : tie.Need-add-result
 add-result c = omega (arith, c .leaf-count .ensures, few-leaves (c .before .before .args .kind))

@@ -2,8 +2,8 @@ use borrow.Author.Needs.{needs}
 use native.Mathlib.Omega.{arith}
 use Rattle.model.specs.Layout.{layoutOf}
 use Rattle.performing.proofs.Formatting.{few-leaves, pointer-room, word-some, word-none}
-use Rattle.performing.proofs.inode_word.Statement.{statement}
-use Rattle.performing.proofs.inode_word.Tie as tie
+use Rattle.performing.proofs.pointer_word.Statement.{statement}
+use Rattle.performing.proofs.pointer_word.Tie as tie
 
 add-start-in : tie.Need-add-start-in
 add-start-in c = let n = c .before in omega (arith, n .leaf-count .ensures, few-leaves (n .before .args .kind))
@@ -17,5 +17,5 @@ returns c = let i = c .before in let n = i .before in word-some (layoutOf (n .be
 returns-2 : tie.Need-returns-2
 returns-2 c = let n = c .before in word-none (layoutOf (n .before .args .kind)) (n .leaf-count .ensures) (c .if1 .left)
 
-pub inode-word-spec : {M : Type 1} → statement M
-inode-word-spec = tie.close (tie.spec (λ c κs. search needs) add-start-in start-in-requires returns returns-2)
+pub pointer-word-spec : {M : Type 1} → statement M
+pointer-word-spec = tie.close (tie.spec (λ c κs. search needs) add-start-in start-in-requires returns returns-2)
