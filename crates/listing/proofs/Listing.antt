@@ -15,8 +15,7 @@ use Rattle.model.specs.Tree.{live}
 use Rattle.model.specs.Board.{rootBlocks, blockCount, root, size, fileBlocks, free, wordCountSound}
 use Rattle.model.specs.Answers.{number, answered}
 use Rattle.model.specs.Calls.{wordCountFault, boardFaults, checkAnswer, freeCountAnswer}
-use Rattle.model.specs.Lister.{field, line, heldCount, fileLine, boardLines, answerLines, listing}
-use Rattle.model.specs.Lister.{word-blocks, word-free, word-file, word-size, word-height, word-held, word-refused}
+use Rattle.model.specs.Lister.{word-blocks, word-free, word-file, word-size, word-height, word-held, word-refused, field, line, heldCount, fileLine, boardLines, answerLines, listing}
 use Rattle.model.proofs.Refusals.{same-refused, same-done}
 use Rattle.model.proofs.Trees.{live-some}
 use Rattle.trees.specs.Trees.{Counted}

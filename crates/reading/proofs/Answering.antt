@@ -1,41 +1,39 @@
 -- The ways out of the calls that begin with a check.
 use mathlib.Core.Path.{_≡_, refl, sym, ap, _∙_}
-use mathlib.Core.Bool.{Bool, true, false, _&&_, and-false, false≢true}
 use mathlib.Core.Logic.{inl, inr}
 use mathlib.Core.List.{List, [], _∷_}
-use Prim.Native.Nat.{ℕ, _+_, _-_, _%_, _≤_, _<_, min}
+use Prim.Native.Nat.{ℕ, _+_, _-_, _≤_, _<_, min}
 use native.Mathlib.Omega.{arith}
 use lib.ListN.{length, take, drop}
-use lib.Dec.{leb}
+use lib.Dec.{T, leb}
 use borrow.Author.Tests.{le-leb, lt-leb}
 use Rattle.model.specs.declared.Fault.{Fault}
 use Rattle.model.specs.declared.Fault.the-variants.{FileNumber}
 use Rattle.model.specs.declared.Answer.{Answer}
 use Rattle.model.specs.declared.Answer.the-variants.{Done, Refused}
-use Rattle.model.specs.Lists.{tabulate, every, pickFrom, distinct}
+use Rattle.model.specs.Lists.{tabulate, pickFrom}
 use Rattle.model.specs.Layout.{Layout, files}
 use Rattle.model.specs.Tree.{span}
-use Rattle.model.specs.Board.{blockCount, root, size, walkTo, contents, liveBlocks, free, leafSound, fileSound, treesSound}
+use Rattle.model.specs.Board.{blockCount, root, size, walkTo, contents, free, accepted}
 use Rattle.model.specs.Answers.{answered, unlessRefused}
 use Rattle.model.specs.Calls.{boardFaults, fileFaults, checkAnswer, freeCountAnswer, readCount, readAnswer, readBuffer}
-use Rattle.model.proofs.Cases.{split, true-left, true-right, every-fails}
+use Rattle.model.proofs.Cases.{split}
 use Rattle.model.proofs.Walks.{tabulate-part}
-use Rattle.model.proofs.Refusals.{first-refused, first-done, same-refused, same-done}
+use Rattle.model.proofs.Refusals.{not-refused, first-refused, first-done, same-refused, same-done, check-accepts}
 use Rattle.surveying.specs.Survey.{spare, Surveyed}
-use Rattle.surveying.proofs.Surveying.{sound, free-spare}
-use Rattle.surveying.proofs.Inodes.{root-live}
+use Rattle.surveying.proofs.Surveying.{free-spare}
 use Rattle.files.specs.Filling.{fileByte, FillResult}
 use Rattle.reading.specs.Results.{ReadResult}
 
 -- the number of free blocks
-module _ {g : Layout} (pos : 0 < g .words) (few : g .most ≤ 1024) {b m : List ℕ} {r : Answer} (s : Surveyed g b r m) where
+module _ {g : Layout} {b m : List ℕ} {r : Answer} (s : Surveyed g b r m) where
   pub count-refused : {f : Fault} → r ≡ Refused f → r ≡ freeCountAnswer g b
   unfolding freeCountAnswer checkAnswer
   count-refused z = sym (same-refused (boardFaults g b) 0 (length (free g b)) (s .answer) z)
 
-  pub count-free : {v u top : ℕ} → r ≡ Done v → top ≡ blockCount g b - 1 → u ≡ length (pickFrom 1 (top - 1) (spare m)) → Done u ≡ freeCountAnswer g b
+  pub count-free : 0 < g .words → g .most ≤ 1024 → {v u top : ℕ} → r ≡ Done v → top ≡ blockCount g b - 1 → u ≡ length (pickFrom 1 (top - 1) (spare m)) → Done u ≡ freeCountAnswer g b
   unfolding freeCountAnswer checkAnswer
-  count-free {v} {u} {top} z et eu =
+  count-free pos few {v} {u} {top} z et eu =
       let e : top - 1 ≡ blockCount g b - 2 = omega arith in
       ap Done (eu ∙ rw e (ap length (free-spare pos few v s z))) ∙ sym (same-done (boardFaults g b) 0 (length (free g b)) (s .answer) z)
 
@@ -54,28 +52,15 @@ module _ (g : Layout) (b : List ℕ) (f : ℕ) {r : Answer} (e : r ≡ checkAnsw
     unfolding fileFaults checkAnswer answered
     file-there l = sym (first-done (boardFaults g b) ((FileNumber, leb (files g) f) ∷ []) 0 0 e z ∙ rw (lt-leb (files g) f l))
 
--- a live root of a file of an accepted board
-file-high : (g : Layout) (b : List ℕ) (f : ℕ) → treesSound g b ≡ true → f < files g → 0 < size g b f → root g b f % g .words ≤ g .height
-unfolding treesSound fileSound
-file-high g b f e l live = elim (split (root g b f % g .words) (g .height)) [
-  | inl h ↦ h
-  | inr h ↦
-      let leaves : Bool = every (g .leaves) (leafSound g b) in
-      let all : Bool = every (files g) (fileSound g b) in
-      let here : fileSound g b f ≡ false =
-      rw (root-live (g .words) b (g .height) (blockCount g b - 1) (root g b f) (size g b f) (λ z. omega arith), lt-leb (root g b f % g .words) (g .height) h, and-false) in
-      let each : all ≡ true = true-right leaves all (true-left (leaves && all) (distinct (liveBlocks g b)) e) in
-      absurd (false≢true (sym (every-fails (files g) f (fileSound g b) l here) ∙ each))
-]
-
-pub file-rooted : (g : Layout) (b : List ℕ) (f : ℕ) {r : Answer} {v : ℕ} → r ≡ answered (fileFaults g b f) 0 → r ≡ Done v → 0 < size g b f → root g b f % g .words ≤ g .height
-file-rooted g b f {r} {v} e z live = by (checkAnswer g b) refl
+-- it answers a number only where the board is accepted and has the file
+pub file-found : (g : Layout) (b : List ℕ) (f : ℕ) {r : Answer} {v : ℕ} → r ≡ answered (fileFaults g b f) 0 → r ≡ Done v → T (accepted g b) × (f < files g)
+file-found g b f e z = by (checkAnswer g b) refl
   where
-    by : (q : Answer) → q ≡ checkAnswer g b → root g b f % g .words ≤ g .height
-    by (Refused x) w = let y = file-refused g b f w refl in let n : _≡_ {A = ℕ} 0 1 = cc in absurd (omega arith)
-    by (Done u) w = elim (split (files g) f) [
-      | inl l ↦ let y = file-none g b f w refl l in let n : _≡_ {A = ℕ} 0 1 = cc in absurd (omega arith)
-      | inr l ↦ file-high g b f (sound g b u (sym w) .trees) l live
+    by : (a : Answer) → checkAnswer g b ≡ a → T (accepted g b) × (f < files g)
+    by (Refused x) c = absurd (not-refused z (e ∙ sym (file-refused g b f refl c) ∙ c))
+    by (Done u) c = elim (split (files g) f) [
+      | inl l ↦ absurd (not-refused z (e ∙ sym (file-none g b f refl c l)))
+      | inr l ↦ (check-accepts g b c, l)
     ]
 
 -- the bytes of a read are a part of the contents

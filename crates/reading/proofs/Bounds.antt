@@ -1,26 +1,23 @@
 -- No answer is too great for a signed number.
-use mathlib.Core.Path.{_≡_, refl, sym, _∙_}
-use mathlib.Core.Logic.{inl, inr}
-use mathlib.Core.Bool.{Bool, true, false, not, cond, _&&_, false≢true}
+use mathlib.Core.Path.{_≡_, refl}
+use mathlib.Core.Bool.{Bool, true, false, not, cond}
 use mathlib.Core.List.{List, [], _∷_}
 use Prim.Native.Nat.{ℕ, zero, suc, _+_, _-_, _/_, _^_, _≤_, _<_}
 use native.Mathlib.Omega.{arith}
 use lib.ListN.{length}
-use lib.Dec.{leb}
-use borrow.Author.Tests.{le-leb, lt-leb}
-use Rattle.model.specs.declared.Fault.the-variants.{FileNumber}
 use Rattle.model.specs.declared.Answer.{Answer}
 use Rattle.model.specs.declared.Answer.the-variants.{Done, Refused}
-use Rattle.model.specs.Lists.{every, consIf, pickFrom, member, distinct}
-use Rattle.model.specs.Layout.{house, files}
+use Rattle.model.specs.Lists.{consIf, pickFrom, member}
+use Rattle.model.specs.Layout.{house}
 use Rattle.model.specs.Tree.{span}
-use Rattle.model.specs.Board.{greatest, blockCount, size, liveBlocks, free, leafSound, fileSound, treesSound}
+use Rattle.model.specs.Board.{greatest, blockCount, size, liveBlocks, free}
 use Rattle.model.specs.Answers.{Faults, answered, counted}
 use Rattle.model.specs.Calls.{boardFaults, fileFaults, checkAnswer, freeCountAnswer, sizeAnswer, readCount, readAnswer}
-use Rattle.model.proofs.Cases.{split, true-left, true-right, every-fails}
-use Rattle.model.proofs.Refusals.{first-refused, first-done}
-use Rattle.surveying.proofs.Surveying.{sound}
+use Rattle.model.proofs.Accepting.{facts}
+use Rattle.model.proofs.Formatted.{house-fits}
+use Rattle.model.proofs.Refusals.{same-refused, same-done}
 use Rattle.reading.specs.Results.{ReadResult}
+use Rattle.reading.proofs.Answering.{file-found}
 
 pub counted-most : (fs : Faults) (n : ℕ) → counted (answered fs n) ≤ n
 unfolding answered counted
@@ -32,26 +29,11 @@ counted-most (t ∷ ts) n = by (t .1) (counted-most ts n)
     by false h = h
 
 module _ (b : List ℕ) (f : ℕ) where
-  -- a file of an accepted board
-  size-most : treesSound house b ≡ true → f ≤ 31 → size house b f ≤ 32768
-  unfolding treesSound files fileSound greatest span
-  size-most e l = elim (split (size house b f) 32768) [
-    | inl h ↦ h
-    | inr h ↦
-        let leaves : Bool = every 8 (leafSound house b) in
-        let all : Bool = every 32 (fileSound house b) in
-        let here : fileSound house b f ≡ false = rw (lt-leb (size house b f) 32768 h) in
-        let each : all ≡ true = true-right leaves all (true-left (leaves && all) (distinct (liveBlocks house b)) e) in
-        absurd (false≢true (sym (every-fails 32 f (fileSound house b) (omega arith) here) ∙ each))
-  ]
-
-  size-counted : (r : Answer) → r ≡ checkAnswer house b → counted (sizeAnswer house b f) ≤ 32768
-  unfolding sizeAnswer checkAnswer fileFaults files answered counted
-  size-counted (Refused x) e = rw (first-refused (boardFaults house b) ((FileNumber, leb 32 f) ∷ []) 0 (size house b f) e refl) (omega arith)
-  size-counted (Done v) e = rw (first-done (boardFaults house b) ((FileNumber, leb 32 f) ∷ []) 0 (size house b f) e refl) (elim (split f 31) [
-    | inl l ↦ rw (lt-leb 32 f (omega arith)) (size-most (sound house b v (sym e) .trees) l)
-    | inr l ↦ rw (le-leb 32 f l) (omega arith)
-  ])
+  size-counted : (r : Answer) → r ≡ answered (fileFaults house b f) 0 → counted (sizeAnswer house b f) ≤ 32768
+  unfolding sizeAnswer counted greatest span
+  size-counted (Refused x) e = rw (same-refused (fileFaults house b f) 0 (size house b f) e refl) (omega arith)
+  size-counted (Done v) e = let k = file-found house b f e refl in
+      rw (same-done (fileFaults house b f) 0 (size house b f) e refl) (facts house house-fits b (k .0) .most f (k .1))
 
 -- no more are picked than there are
 pick-most : (c n : ℕ) (p : ℕ → Bool) → length (pickFrom c n p) ≤ n
@@ -75,7 +57,7 @@ module _ (b : List ℕ) {r : Answer} where
       rw e (omega (arith, counted-most (boardFaults house b) (length (pickFrom 1 (length b / 8 - 2) live)), pick-most 1 (length b / 8 - 2) live))
 
   pub size-small : (f : ℕ) → r ≡ sizeAnswer house b f → counted r < 2 ^ 63
-  size-small f e = rw e (omega (arith, size-counted b f (checkAnswer house b) refl))
+  size-small f e = rw e (omega (arith, size-counted b f (answered (fileFaults house b f) 0) refl))
 
   pub read-small : {f o : ℕ} {out out′ : List ℕ} → length out < 2 ^ 63 → ReadResult house b f o out r out′ → counted r < 2 ^ 63
   unfolding readAnswer readCount

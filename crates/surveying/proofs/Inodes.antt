@@ -40,7 +40,7 @@ module _ (g : Layout) (b : List ℕ) (l : ℕ) {p low : ℕ} (ep : p ≡ inodePo
     leaf-claim e f et c = Marking.same (rw (← low-is, ← leaf-is, ← et, eq-eqb low 0 e, lt-ltb 0 k (omega arith))) (rw (← leaf-is)) c
 
 -- a live root
-pub root-live : (W : ℕ) (b : List ℕ) (height top r n : ℕ) → n ≢ 0 → rootSound W b height top r n ≡ (leb (r % W) height && sound W b top (r % W) (r / W) n)
+root-live : (W : ℕ) (b : List ℕ) (height top r n : ℕ) → n ≢ 0 → rootSound W b height top r n ≡ (leb (r % W) height && sound W b top (r % W) (r / W) n)
 unfolding rootSound
 root-live W b height top r zero live = absurd (live refl)
 root-live W b height top r (suc n) live = refl

@@ -18,7 +18,7 @@ use Rattle.model.specs.Board.{blockCount, liveBlocks, free, wordCountSound, tra
 use Rattle.model.specs.Answers.{answered}
 use Rattle.model.specs.Calls.{wordCountFault, boardFaults, checkAnswer}
 use Rattle.model.proofs.Cases.{is-true, and-left, and-right, true-left, true-right}
-use Rattle.model.proofs.Refusals.{check-accepts}
+use Rattle.model.proofs.Refusals.{not-refused, check-accepts}
 use Rattle.model.proofs.Live.{below, inode-below, live-below}
 use Rattle.trees.specs.Marks.{unmarked, marked, Marked}
 use Rattle.surveying.specs.Survey.{pointersSound, spare, Surveyed}
@@ -51,7 +51,7 @@ module _ (g : Layout) (pos : 0 < g .words) (few : g .most ≤ 1024) (b : List �
     accept = rw (inode-below g b t)
         (and-same inodesSound (unmarked (replicate 1024 0) (liveBlocks g b)) (distinct (liveBlocks g b)) (λ s. unmarked-zeros 1024 (liveBlocks g b) (within s)))
 
-    pub found : {ok : Bool} {m m′ : List ℕ} → m ≡ replicate 1024 0 → Marked (pointersSound g b) (liveBlocks g b) m ok m′ → ok ≡ treesSound g b
+    found : {ok : Bool} {m m′ : List ℕ} → m ≡ replicate 1024 0 → Marked (pointersSound g b) (liveBlocks g b) m ok m′ → ok ≡ treesSound g b
     found pre c = rw pre at (c .answer) ∙ accept
 
     free-marks : treesSound g b ≡ true → pickFrom 1 (blockCount g b - 2) (spare (marked (replicate 1024 0) (liveBlocks g b))) ≡ free g b
@@ -67,9 +67,9 @@ unfolding checkAnswer boardFaults wordCountFault answered
 answer-shape g b = refl
 
 refused : {g : Layout} {b m : List ℕ} {f : Fault} → Refused f ≡ checkAnswer g b → Surveyed g b (Refused f) m
-refused q = record { answer = q; marks = λ v z. let n : _≡_ {A = ℕ} 0 1 = cc in absurd (omega arith) }
+refused q = record { answer = q; marks = λ v z. absurd (not-refused z refl) }
 
-module _ {g : Layout} (pos : 0 < g .words) (few : g .most ≤ 1024) {b m : List ℕ} where
+module _ {g : Layout} {b m : List ℕ} where
   pub miscounted : {w : Bool} → w ≡ wordCountSound g b → w ≡ false → Surveyed g b (Refused WordCount) m
   miscounted e z = refused (sym (answer-shape g b ∙ rw (← e, z)))
 
@@ -77,7 +77,8 @@ module _ {g : Layout} (pos : 0 < g .words) (few : g .most ≤ 1024) {b m : List 
     pub mistrailed : {t : Bool} → t ≡ trailerSound g b → t ≡ false → Surveyed g b (Refused Trailer) m
     mistrailed e z = refused (sym (answer-shape g b ∙ rw (← ew, zw, ← e, z)))
 
-    module _ {t ok : Bool} {m₀ : List ℕ} (et : t ≡ trailerSound g b) (zt : t ≡ true) (pre : m₀ ≡ replicate 1024 0) (c : Marked (pointersSound g b) (liveBlocks g b) m₀ ok m) where
+    module _ (pos : 0 < g .words) (few : g .most ≤ 1024) {t ok : Bool} {m₀ : List ℕ} (et : t ≡ trailerSound g b) (zt : t ≡ true) (pre : m₀ ≡ replicate 1024 0)
+        (c : Marked (pointersSound g b) (liveBlocks g b) m₀ ok m) where
       pub damaged : ok ≡ false → Surveyed g b (Refused Damaged) m
       damaged z = refused (sym (answer-shape g b ∙ rw (← ew, zw, ← et, zt, ← found g pos few b (sym ew ∙ zw) (sym et ∙ zt) pre c, z)))
 

@@ -12,9 +12,16 @@ held-count-requires : tie.Need-held-count-requires
 held-count-requires c κs = house-reach _ (omega (arith, c .before .low-in .ensures))
 
 returns-2 : tie.Need-returns-2
-returns-2 c = let a = c .before .before .before .before .before .before .before .before .before .before .before .before .args in let h = c .before .before .before .before .before .before .low-in .ensures in let k = c .before .before .before .before .before .block-in .ensures in
-    one-line (a .board .now) (a .f) (c .before .before .before .before .before .before .before .before .before .size .ensures) (c .before .before .before .before .before .before .before .before .if1 .left) (c .before .before .before .before .before .before .before .root .ensures)
-    (rw (h, k) at (c .before .before .before .before .held-count .ensures)) (rw h at (c .before .before .file-line .ensures))
+returns-2 c =
+    let l = c .before .before in
+    let d = l .before .before in
+    let k = d .before in
+    let h = k .before in
+    let r = h .before in
+    let s = r .before .before in
+    let a = s .before .before .before .args in
+    one-line (a .board .now) (a .f) (s .size .ensures) (r .before .if1 .left) (r .root .ensures) (rw (h .low-in .ensures, k .block-in .ensures) at (d .held-count .ensures))
+    (rw (h .low-in .ensures) at (l .file-line .ensures))
 
 pub file-spec : {M : Type 1} → statement M
 file-spec =

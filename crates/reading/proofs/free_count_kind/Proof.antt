@@ -5,13 +5,11 @@ use Rattle.reading.proofs.free_count_kind.Statement.{statement}
 use Rattle.reading.proofs.free_count_kind.Tie as tie
 
 returns : tie.Need-returns
-returns c =
-    let k = c .before .before .before .before .before .before .args .kind in
-    count-refused (words-pos k) (few k) (c .before .before .before .survey .ensures) (c .enum-told2 .given .1)
+returns c = count-refused (c .before .before .before .survey .ensures) (c .enum-told2 .given .1)
 
 returns-2 : tie.Need-returns-2
 returns-2 c = let t = c .before .before .before in let k = t .before .before .before .before .before .before .args .kind in
-    count-free (words-pos k) (few k) (t .before .before .before .survey .ensures) (t .enum-told .given .1) (c .before .before .last .ensures) (c .unmarked .ensures)
+    count-free (t .before .before .before .survey .ensures) (words-pos k) (few k) (t .enum-told .given .1) (c .before .before .last .ensures) (c .unmarked .ensures)
 
 pub free-count-kind-spec : {M : Type 1} → statement M
 free-count-kind-spec =

@@ -1,7 +1,8 @@
 use borrow.Author.Needs.{needs}
 use Rattle.model.specs.Layout.{layoutOf}
-use Rattle.kinds.proofs.Figures.{reach}
-use Rattle.reading.proofs.Answering.{file-rooted, read-refused, read-bytes}
+use Rattle.model.proofs.Accepting.{facts}
+use Rattle.kinds.proofs.Figures.{fits, reach}
+use Rattle.reading.proofs.Answering.{file-found, read-refused, read-bytes}
 use Rattle.reading.proofs.read_kind.Statement.{statement}
 use Rattle.reading.proofs.read_kind.Tie as tie
 
@@ -14,10 +15,11 @@ fill-requires c κs =
     let a = s .args in
     let g = layoutOf (a .kind) in
     let t = c .before .before .before in
+    let k = file-found g (a .board .now) (a .file) (t .before .before .check-file .ensures) (t .enum-told .given .1) in
     record {
       width = s .pre .width;
       reach = λ live. reach (a .kind) (s .pre) (rw (c .before .before .root .ensures, ← s .pre .is)
-          (file-rooted g (a .board .now) (a .file) (t .before .before .check-file .ensures) (t .enum-told .given .1) (rw (c .before .size .ensures) at live)));
+          (facts g (fits (a .kind)) (a .board .now) (k .0) .low (a .file) (k .1) (rw (c .before .size .ensures) at live)));
     }
 
 returns-2 : tie.Need-returns-2

@@ -1,9 +1,9 @@
+use mathlib.Core.Path.{_∙_}
 use native.Mathlib.Nat.{mod-lt}
 use native.Mathlib.Omega.{arith}
 use borrow.Author.Needs.{needs}
-use Rattle.trees.proofs.Reaching.{house-reach}
-use mathlib.Core.Path.{_∙_}
 use Rattle.model.specs.Board.{walkTo}
+use Rattle.trees.proofs.Reaching.{house-reach}
 use Rattle.reading.proofs.walk_to.Statement.{statement}
 use Rattle.reading.proofs.walk_to.Tie as tie
 

@@ -6,26 +6,25 @@ use Rattle.surveying.proofs.survey.Statement.{statement}
 use Rattle.surveying.proofs.survey.Tie as tie
 
 returns : tie.Need-returns
-returns c = let k = c .before .before .before .before .args .kind in miscounted (words-pos k) (few k) (c .before .word-count-sound .ensures) (not-true _ (c .if1 .taken))
+returns c = miscounted (c .before .word-count-sound .ensures) (not-true _ (c .if1 .taken))
 
 returns-2 : tie.Need-returns-2
 returns-2 c =
     let t = c .before in
-    let k = t .before .before .before .before .before .args .kind in
-    mistrailed (words-pos k) (few k) (t .before .before .word-count-sound .ensures) (not-false _ (t .before .if1 .left)) (t .trailer-sound .ensures)
+    mistrailed (t .before .before .word-count-sound .ensures) (not-false _ (t .before .if1 .left)) (t .trailer-sound .ensures)
     (not-true _ (c .if2 .taken))
 
 returns-3 : tie.Need-returns-3
 returns-3 c = let l = c .before .before .before in let t = l .before .before .before in let w = t .before .before in
     let k = w .before .before .before .args .kind in
-    damaged (words-pos k) (few k) (w .word-count-sound .ensures) (not-false _ (t .before .if1 .left)) (t .trailer-sound .ensures)
+    damaged (w .word-count-sound .ensures) (not-false _ (t .before .if1 .left)) (words-pos k) (few k) (t .trailer-sound .ensures)
     (not-false _ (l .before .before .if2 .left)) (w .before .before .before .pre .0)
     (l .live .ensures) (not-true _ (c .if3 .taken))
 
 returns-4 : tie.Need-returns-4
 returns-4 c = let l = c .before .before .before in let t = l .before .before .before in let w = t .before .before in
     let k = w .before .before .before .args .kind in
-    surveyed (words-pos k) (few k) (w .word-count-sound .ensures) (not-false _ (t .before .if1 .left)) (t .trailer-sound .ensures)
+    surveyed (w .word-count-sound .ensures) (not-false _ (t .before .if1 .left)) (words-pos k) (few k) (t .trailer-sound .ensures)
     (not-false _ (l .before .before .if2 .left)) (w .before .before .before .pre .0)
     (l .live .ensures) (not-false _ (c .if3 .left))
 
