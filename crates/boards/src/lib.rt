@@ -97,7 +97,7 @@ pub fn trailer_word(kind: Kind, blocks: u64, j: u64) -> u64
 }
 
 // Whether the words of the trailer from word 1 on are as they must be.
-pub fn trailer_words_sound(kind: Kind, board: &[u64]) -> bool
+fn trailer_words_sound(kind: Kind, board: &[u64]) -> bool
     ensures { λ r. ⌜ r ≡ trailerWordsSound (layoutOf kind) (now (board .entry)) ⌝ }
 {
     let n = words_in(kind) - 1;

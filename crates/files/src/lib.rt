@@ -16,7 +16,7 @@ ghost use Rattle.words.specs.Width.{Width};
 ghost use Rattle.files.specs.Filling.{Rooted, FillResult};
 
 // n zeros, to the front of a buffer.
-pub fn clear(n: usize, out: &mut [u8])
+fn clear(n: usize, out: &mut [u8])
     requires { ⌜ n ≤ length (now out) ⌝ }
     ensures { λ _. ⌜ Filled (λ j. 0) n (now (out .entry)) (now (out .exit)) ⌝ }
 {
@@ -28,7 +28,7 @@ pub fn clear(n: usize, out: &mut [u8])
 }
 
 // n bytes of block k, from byte `from` of it on, to the front of a buffer.
-pub fn copy_bytes(bits: u64, board: &[u64], k: u64, from: u64, n: usize, out: &mut [u8])
+fn copy_bytes(bits: u64, board: &[u64], k: u64, from: u64, n: usize, out: &mut [u8])
     requires { ⌜ (n ≤ length (now out)) × (from ≤ 4096) × Width bits ⌝ }
     ensures { λ _. ⌜ Filled (λ j. shown (2 ^ bits) (now (board .entry)) (Block k) (from + j)) n (now (out .entry)) (now (out .exit)) ⌝ }
 {
@@ -42,7 +42,7 @@ pub fn copy_bytes(bits: u64, board: &[u64], k: u64, from: u64, n: usize, out: &m
 }
 
 // n words of block k, from word `from` of it on, to the front of a buffer.
-pub fn copy_words(bits: u64, board: &[u64], k: u64, from: u64, n: usize, out: &mut [u8])
+fn copy_words(bits: u64, board: &[u64], k: u64, from: u64, n: usize, out: &mut [u8])
     requires { ⌜ (8 * n ≤ length (now out)) × (from ≤ 512) × Width bits ⌝ }
     ensures { λ _. ⌜ Filled (λ j. shown (2 ^ bits) (now (board .entry)) (Block k) (8 * from + j)) (8 * n) (now (out .entry)) (now (out .exit)) ⌝ }
 {
@@ -56,7 +56,7 @@ pub fn copy_words(bits: u64, board: &[u64], k: u64, from: u64, n: usize, out: &m
 }
 
 // n bytes from byte `from` on of the block where a walk ended, whole words where that is all of them.
-pub fn copy(bits: u64, board: &[u64], end: WalkEnd, from: u64, n: usize, out: &mut [u8])
+fn copy(bits: u64, board: &[u64], end: WalkEnd, from: u64, n: usize, out: &mut [u8])
     requires { ⌜ (n ≤ length (now out)) × (from ≤ 4096) × Width bits ⌝ }
     ensures { λ _. ⌜ Filled (λ j. shown (2 ^ bits) (now (board .entry)) end (from + j)) n (now (out .entry)) (now (out .exit)) ⌝ }
 {

@@ -4,19 +4,19 @@ use mathlib.Core.Logic.{_≢_}
 use mathlib.Core.List.{List, [], _∷_}
 use Prim.Native.Nat.{ℕ, zero, suc, _+_, _-_, _*_, _/_, _%_, _^_, _≤_, _<_}
 use native.Mathlib.Omega.{arith}
-use native.Mathlib.Nat.{zero-add, mul-zero, mul-comm, mul-le-mul-right, div-add-mod'}
+use native.Mathlib.Nat.{zero-add, mul-zero, mul-comm, mul-le-mul-right, mod-lt, div-add-mod', div-lt-iff-lt-mul}
 use native.Mathlib.Numerals.{sub-one}
 use lib.ListN.{length, getD}
 use Rattle.model.specs.Lists.{tabulate}
 use Rattle.model.specs.declared.Inode.{Inode}
 use Rattle.model.specs.declared.Kind.{Kind}
-use Rattle.model.specs.declared.Kind.the-variants.{House, Published}
-use Rattle.model.specs.Layout.{Layout, layoutOf}
+use Rattle.model.specs.Layout.{Layout, layoutOf, files}
 use Rattle.model.specs.Board.{trailer, inodeBlock, sizeAddress, root, size}
 use Rattle.model.specs.Store.{store}
 use Rattle.model.specs.Fresh.{Page}
 use Rattle.model.specs.Change.{levelPage, levelBelow, levels, levelTop, growthTo}
 use Rattle.model.proofs.Perform.{length-tabulate}
+use Rattle.kinds.proofs.Figures.{fits, files-32, block-room}
 use Rattle.plans.specs.Laying.{closing, Laid}
 use Rattle.plans.specs.Onto.{taking, Blocks}
 use Rattle.building.specs.Taking.{Took}
@@ -27,7 +27,7 @@ use Rattle.growing.proofs.OneStep.{one-step}
 -- ---- Levels
 
 -- the page of level i over the tree at block k
-abbrev pub levelAt : ℕ → (ℕ → ℕ) → ℕ → ℕ → Page
+abbrev levelAt : ℕ → (ℕ → ℕ) → ℕ → ℕ → Page
 levelAt W fresh k i = levelPage W (levelBelow fresh k i)
 
 levels-some : (W : ℕ) (fresh : ℕ → ℕ) (k d : ℕ) → k ≢ 0 → levels W fresh k d ≡ tabulate d (levelAt W fresh k)
@@ -35,7 +35,7 @@ unfolding levels
 levels-some W fresh zero d f = absurd (f refl)
 levels-some W fresh (suc k) d f = refl
 
--- the words of a level's page, of which only the first is laid by the code
+-- the words of a level's page: the code's slice has the first, and a word off it is 0
 level-words : (W below j : ℕ) → getD (W * below ∷ []) j 0 ≡ levelPage W below j
 unfolding levelPage
 level-words W below zero = refl
@@ -74,13 +74,7 @@ few-levels {W} {free} k d t = omega (arith, t .next, levels-most W (taking free)
 
 -- ---- The block at the top
 
--- its address is a word
-pub below-small : {W : ℕ} {free : List ℕ} {v : ℕ} (k t : ℕ) → W ≤ 512 → Blocks free → W * k < 2 ^ 64 → v ≡ levelBelow (taking free) k t → W * v < 2 ^ 64
-unfolding levelBelow
-below-small k zero w b l e = rw e l
-below-small {W} {free} k (suc t) w b l e = rw e (omega (arith, mul-le-mul-right (taking free t) w, b .small t))
-
--- and there is room for the height: where the root is over no level, the height is the root's own
+-- its address is a word, with room for the height: where the root is over no level, the height is the root's own
 pub root-room : {W r h v : ℕ} {free : List ℕ} → W ≤ 512 → Blocks free → r < 2 ^ 64 → h < 8 → (d : ℕ) → d ≡ h - r % W → r % W ≤ h → v ≡ levelBelow (taking free) (r / W) d → W * v + h < 2 ^ 64
 unfolding levelBelow
 root-room {W} {r} wide b small low zero ed least e = rw e (omega (arith, ed, div-add-mod' r W, mul-comm W (r / W)))
@@ -115,17 +109,15 @@ growth-laid g {free} {t = t} {v} n h l ev commit =
 
 -- the inodes of a leaf have addresses
 pub place : (kind : Kind) (p f : ℕ) → p < 2 ^ 64 → layoutOf kind .words * (p / layoutOf kind .words) + (2 * (f % layoutOf kind .inodes) + 1) < 2 ^ 64
-place House p f l = omega arith
-place Published p f l = omega arith
-
-pub few-inodes : (kind : Kind) (f : ℕ) → f % layoutOf kind .inodes < 32
-few-inodes House f = omega arith
-few-inodes Published f = omega arith
+place kind p f l = let fit = fits kind in omega (arith, block-room kind p l, mod-lt f (fit .inodes-some), fit .inodes-fit)
 
 -- the inode pointer has an address
 pub pointer-room : (kind : Kind) (w f : ℕ) → w < 2 ^ 64 → f < 32 → layoutOf kind .words * (w / layoutOf kind .words) + f / layoutOf kind .inodes < 2 ^ 64
-pointer-room House w f l m = omega arith
-pointer-room Published w f l m = omega arith
+unfolding files
+pointer-room kind w f l m =
+    let fit = fits kind in
+    let leaf : f / layoutOf kind .inodes < layoutOf kind .leaves = div-lt-iff-lt-mul (fit .inodes-some) .1 (rw (files-32 kind) m) in
+    omega (arith, block-room kind w l, fit .leaves-fit)
 
 pub inode-is : {g : Layout} {b : List ℕ} {f w p a r s : ℕ} → w ≡ trailer g b 0 → p ≡ g .words * (w / g .words) + f / g .inodes → AddressOf g b f a → r ≡ getD b a 0 → s ≡ getD b (a + 1) 0
     → InodeOf g b f (record { pointer = p; at = a; root = r; size = s })

@@ -29,7 +29,7 @@ pub fn word_at(image: &[u8], at: usize) -> u64
 }
 
 // Stores each whole word of the image.
-pub fn decode(image: &[u8], words: &mut [u64])
+fn decode(image: &[u8], words: &mut [u64])
     requires { ⌜ length (now image) / 8 ≤ length (now words) ⌝ }
     ensures { λ _. ⌜ now (words .exit) ≡ wordsOf (now (image .entry)) ++ drop (length (now (image .entry)) / 8) (now (words .entry)) ⌝ }
 {

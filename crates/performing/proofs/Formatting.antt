@@ -1,12 +1,12 @@
 -- Format: the parts of its plan as they are laid, and its ways out.
 use mathlib.Core.Path.{_≡_, refl, sym, ap, _∙_}
 use mathlib.Core.Bool.{Bool, true, false}
-use mathlib.Core.List.{List, [], _∷_, _++_, append-assoc, append-nil}
-use Prim.Native.Nat.{ℕ, zero, suc, _+_, _-_, _*_, _/_, _^_, _≤_, _<_}
+use mathlib.Core.List.{List, [], _∷_, _++_}
+use Prim.Native.Nat.{ℕ, suc, _+_, _-_, _*_, _/_, _^_, _≤_, _<_}
 use native.Mathlib.Omega.{arith}
-use native.Mathlib.Nat.{add-zero, add-suc, suc-add, mul-one, mul-add, mul-le-mul, mul-le-mul-left, mul-le-mul-right}
+use native.Mathlib.Nat.{mul-one, mul-add, mul-le-mul, mul-le-mul-left, mul-le-mul-right}
 use native.Mathlib.Numerals.{add-one}
-use lib.ListN.{length, replicate}
+use lib.ListN.{length, replicate, length-replicate, replicate-append-replicate}
 use borrow.Author.Tests.{le-ltb, lt-ltb}
 use Rattle.model.specs.declared.Fault.the-variants.{WordCount, PlanLength}
 use Rattle.model.specs.declared.Answer.the-variants.{Done, Refused}
@@ -25,6 +25,7 @@ use Rattle.model.proofs.Formatted.{clears, commits, trailerStore, pages, fillin
 use Rattle.kinds.proofs.Figures.{fits, few-words, block-room}
 use Rattle.plans.specs.Laying.{blockStores, Laid, PlanResult}
 use Rattle.plans.proofs.Laying as Laying
+use Rattle.plans.proofs.Onto.{stored-append, stored-one}
 use Rattle.plans.proofs.Refusing.{turned, too-short, long-enough}
 
 -- ---- The figures of each kind
@@ -57,11 +58,8 @@ zeros j = 0
 abbrev pub leaves : ℕ → ℕ → ℕ → List Store
 leaves W l c = stored W (λ c. c) (replicate l zeros) c
 
-leaves-last : (W l c : ℕ) → leaves W (suc l) c ≡ leaves W l c ++ tabulate W (pageStore W (c + l) zeros)
-unfolding stored
-leaves-last W zero c = rw (add-zero c) (append-nil (tabulate W (pageStore W c zeros)))
-leaves-last W (suc l) c = rw (leaves-last W l (suc c), add-suc c l, suc-add c l)
-    (sym (append-assoc (tabulate W (pageStore W c zeros)) (leaves W l (suc c)) (tabulate W (pageStore W (suc (c + l)) zeros))))
+leaves-last : (W l c : ℕ) → leaves W (l + 1) c ≡ leaves W l c ++ tabulate W (pageStore W (c + l) zeros)
+leaves-last W l c = rw (← replicate-append-replicate l 1 zeros, stored-append W (λ c. c) (replicate l zeros) (zeros ∷ []) c, length-replicate l zeros, stored-one W (λ c. c) zeros (c + l))
 
 -- a page laid for a block
 page-laid : {plan plan′ : List ℕ} {p : ℕ} (W k : ℕ) (page : Page) → plan′ ≡ laid plan p (tabulate W (pageStore W k page)) → Laid plan p (tabulate W (pageStore W k page)) plan′ (p + W)
@@ -74,7 +72,7 @@ leaves-none W = Laying.none
 pub leaves-more : (W : ℕ) {p q k : ℕ} {plan plan₁ plan₂ : List ℕ} (l : ℕ) → Laid plan p (leaves W l 2) plan₁ q → k ≡ 2 + l → plan₂ ≡ laid plan₁ q (blockStores W k [])
     → Laid plan p (leaves W (l + 1) 2) plan₂ (q + W)
 unfolding blockStores
-leaves-more W l a ek e = rw (add-one l, leaves-last W l 2) (Laying.more a (page-laid W (2 + l) zeros (rw ek at e)))
+leaves-more W l a ek e = rw (leaves-last W l 2) (Laying.more a (page-laid W (2 + l) zeros (rw ek at e)))
 
 module _ (g : Layout) where
   -- the first j inode pointers, and one more
@@ -94,8 +92,7 @@ module _ (g : Layout) where
   -- all of them
   pub pointers-all : (plan : List ℕ) {plan₁ : List ℕ} {j : ℕ} → j ≡ g .words → plan₁ ≡ laid plan 2 (pointersPart j)
       → plan₁ ≡ laid plan 2 (stored (g .words) (λ c. c) (inodePage g ∷ []) 1)
-  unfolding stored
-  pointers-all plan z e = rw (append-nil (pointersPart (g .words))) (rw z at e)
+  pointers-all plan z e = rw (stored-one (g .words) (λ c. c) (inodePage g) 1) (rw z at e)
 
   -- a word of the inode pointer block
   pub word-some : {j n v : ℕ} → n ≡ g .leaves → j < n → v ≡ g .words * (2 + j) → v ≡ inodePage g j
@@ -112,7 +109,7 @@ module _ (g : Layout) where
   unfolding stored formatPages
   inodes-laid plan {plan₁} e a =
       let W : ℕ = g .words in
-      let one : Laid plan 2 (tabulate W (pageStore W 1 (inodePage g))) plan₁ (2 + W) = page-laid W 1 (inodePage g) (rw append-nil at e) in
+      let one : Laid plan 2 (tabulate W (pageStore W 1 (inodePage g))) plan₁ (2 + W) = page-laid W 1 (inodePage g) (rw (stored-one W (λ c. c) (inodePage g) 1) at e) in
       Laying.more one (record { is = a; next = refl }) .is
 
   -- ---- The trailer

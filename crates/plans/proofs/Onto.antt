@@ -15,8 +15,10 @@ use Rattle.model.specs.Fresh.{Page, stored}
 use Rattle.model.specs.Change.{levelPage, levelBelow}
 use Rattle.model.proofs.Cases.{decide}
 use Rattle.model.proofs.Perform.{All, all-tabulate, length-tabulate, length-performed, performed-append, performed-away, block-away, pageStore}
+use Rattle.words.specs.Width.{Width}
+use Rattle.words.proofs.Widths as Widths
 use Rattle.plans.specs.declared.Grown.{Grown}
-use Rattle.plans.specs.Onto.{taking, onto, levelOf, NotGrown}
+use Rattle.plans.specs.Onto.{taking, Blocks, onto, levelOf, NotGrown}
 
 module _ (W : ℕ) (fresh : ℕ → ℕ) where
   pub stored-append : (ps qs : List Page) (c : ℕ) → stored W fresh (ps ++ qs) c ≡ stored W fresh ps c ++ stored W fresh qs (c + length ps)
@@ -37,7 +39,7 @@ module _ (W : ℕ) (fresh : ℕ → ℕ) where
         | inr d ↦ getD-set-other c (W * k + m) (W * k + i) (p m) 0 (λ e. d (omega (arith, e))) ∙ page-word b k p m i (omega arith) on
       ])
 
-  stored-one : (p : Page) (c : ℕ) → stored W fresh (p ∷ []) c ≡ tabulate W (pageStore W (fresh c) p)
+  pub stored-one : (p : Page) (c : ℕ) → stored W fresh (p ∷ []) c ≡ tabulate W (pageStore W (fresh c) p)
   unfolding stored
   stored-one p c = append-nil (tabulate W (pageStore W (fresh c) p))
 
@@ -59,7 +61,7 @@ module _ (W : ℕ) (fresh : ℕ → ℕ) where
   abbrev levelWord : (b : List ℕ) (f : ℕ → Page) (x d : ℕ) → ℕ
   levelWord b f x d = let t = levelOf fresh d (x / W) in choose t (getD b x 0) (f (t - 1) (x % W))
 
-  pub levels-word : 0 < W → (b : List ℕ) (f : ℕ → Page) (x : ℕ) → x < length b → (d : ℕ) → getD (performed b (stored W fresh (tabulate d f) 0)) x 0 ≡ levelWord b f x d
+  levels-word : 0 < W → (b : List ℕ) (f : ℕ → Page) (x : ℕ) → x < length b → (d : ℕ) → getD (performed b (stored W fresh (tabulate d f) 0)) x 0 ≡ levelWord b f x d
   unfolding stored tabulate performed levelOf choose
   levels-word pos b f x on zero = refl
   levels-word pos b f x on (suc d) =
@@ -126,6 +128,12 @@ module _ (W : ℕ) (free b : List ℕ) (g : Grown) where
       pub word-pointer : t ≢ 0 → x % W ≡ 0 → W * levelBelow (taking free) (g .below) (t - 1) ≡ getD (onto W free b g) x 0
       unfolding levelPage
       word-pointer some z = sym (level-some some ∙ rw z)
+
+-- the pointer to a level is a word
+pub below-small : {b : ℕ} {free : List ℕ} {v : ℕ} (k t : ℕ) → Width b → Blocks free → 2 ^ b * k < 2 ^ 64 → v ≡ levelBelow (taking free) k t → 2 ^ b * v < 2 ^ 64
+unfolding levelBelow
+below-small k zero w s l e = rw e l
+below-small k (suc t) w s l e = rw e (omega (arith, Widths.address w (s .small t)))
 
 -- where nothing grew the board is itself
 pub onto-none : (W : ℕ) (free b : List ℕ) (g : Grown) → NotGrown g → length b < 2 ^ 64 → onto W free b g ≡ b

@@ -29,7 +29,7 @@ ghost use Rattle.kinds.specs.Figures.{Bits};
 ghost use Rattle.surveying.specs.Survey.{pointersSound, spare, Surveyed};
 
 // Marks leaf l; whether its pointer is as it must be and it was not marked before.
-pub fn leaf(kind: Kind, board: &[u64], marks: &mut [u64], l: u64) -> bool
+fn leaf(kind: Kind, board: &[u64], marks: &mut [u64], l: u64) -> bool
     ensures { λ r. ⌜ Marked (leafSound (layoutOf kind) (now (board .entry)) l) (leaf (layoutOf kind) (now (board .entry)) l ∷ []) (now (marks .entry)) r (now (marks .exit)) ⌝ }
 {
     let p = inode_pointer(kind, board, l);
@@ -45,7 +45,7 @@ pub fn leaf(kind: Kind, board: &[u64], marks: &mut [u64], l: u64) -> bool
 }
 
 // The same of all leaves.
-pub fn leaves(kind: Kind, board: &[u64], marks: &mut [u64]) -> bool
+fn leaves(kind: Kind, board: &[u64], marks: &mut [u64]) -> bool
     ensures { λ r. ⌜ Marked (every (layoutOf kind .leaves) (leafSound (layoutOf kind) (now (board .entry)))) (tabulate (layoutOf kind .leaves) (leaf (layoutOf kind) (now (board .entry)))) (now (marks .entry)) r (now (marks .exit)) ⌝ }
 {
     let n = leaf_count(kind);
@@ -60,7 +60,7 @@ pub fn leaves(kind: Kind, board: &[u64], marks: &mut [u64]) -> bool
 }
 
 // Marks the live blocks of file f; whether its size and its tree are as they must be and none of them was marked before.
-pub fn file(kind: Kind, bits: u64, board: &[u64], marks: &mut [u64], f: u64) -> bool
+fn file(kind: Kind, bits: u64, board: &[u64], marks: &mut [u64], f: u64) -> bool
     requires { ⌜ Bits kind bits ⌝ }
     ensures { λ r. ⌜ Marked (fileSound (layoutOf kind) (now (board .entry)) f) (fileBlocks (layoutOf kind) (now (board .entry)) f) (now (marks .entry)) r (now (marks .exit)) ⌝ }
 {
@@ -81,7 +81,7 @@ pub fn file(kind: Kind, bits: u64, board: &[u64], marks: &mut [u64], f: u64) -> 
 }
 
 // The same of all files.
-pub fn files(kind: Kind, bits: u64, board: &[u64], marks: &mut [u64]) -> bool
+fn files(kind: Kind, bits: u64, board: &[u64], marks: &mut [u64]) -> bool
     requires { ⌜ Bits kind bits ⌝ }
     ensures { λ r. ⌜ Marked (every (files (layoutOf kind)) (fileSound (layoutOf kind) (now (board .entry)))) (joined (files (layoutOf kind)) (fileBlocks (layoutOf kind) (now (board .entry)))) (now (marks .entry)) r (now (marks .exit)) ⌝ }
 {
@@ -96,7 +96,7 @@ pub fn files(kind: Kind, bits: u64, board: &[u64], marks: &mut [u64]) -> bool
 }
 
 // The same of the inode pointer block, the leaves and the files.
-pub fn live(kind: Kind, bits: u64, board: &[u64], marks: &mut [u64]) -> bool
+fn live(kind: Kind, bits: u64, board: &[u64], marks: &mut [u64]) -> bool
     requires { ⌜ Bits kind bits ⌝ }
     ensures { λ r. ⌜ Marked (pointersSound (layoutOf kind) (now (board .entry))) (liveBlocks (layoutOf kind) (now (board .entry))) (now (marks .entry)) r (now (marks .exit)) ⌝ }
 {

@@ -18,9 +18,6 @@ module _ (W top : ℕ) (b : List ℕ) (h k n : ℕ) where
   abbrev pub kidSound : ℕ → Bool
   kidSound j = childSound W b h k n j top
 
-  abbrev pub kidBlocks : ℕ → List ℕ
-  kidBlocks = childBlocks W b h k n
-
 module _ {W top : ℕ} {b m : List ℕ} {h k n : ℕ} where
   pub dead : n ≡ 0 → Crawled W top b h k n m true m
   dead e = record { crawled = Marking.nothing (rw e (sound-dead W b top h k)) (rw e (blocks-dead W b h k)) }
@@ -40,7 +37,7 @@ module _ {W top : ℕ} {b m : List ℕ} {h k n : ℕ} where
       pub leaf : ok ≡ true → h ≡ 0 → Crawled W top b h k n m true m₀
       leaf z e = here (Marking.both c z (Marking.nothing (rw e) (rw e)))
 
-      pub node : {ok′ : Bool} {m′ : List ℕ} → ok ≡ true → h ≢ 0 → Marked (every W (kidSound W top b (h - 1) k n)) (joined W (kidBlocks W top b (h - 1) k n)) m₀ ok′ m′ → Crawled W top b h k n m ok′ m′
+      pub node : {ok′ : Bool} {m′ : List ℕ} → ok ≡ true → h ≢ 0 → Marked (every W (kidSound W top b (h - 1) k n)) (joined W (childBlocks W b (h - 1) k n)) m₀ ok′ m′ → Crawled W top b h k n m ok′ m′
       node z f d = here (Marking.both c z (Marking.same (sound-children W b k n top h f) (blocks-children W b k n h f) d))
 
 -- a live pointer's low bits
@@ -51,7 +48,7 @@ aligned-live W (suc n) w live = refl
 
 -- child j, where s is the span of each
 module _ (W top : ℕ) (b : List ℕ) (h k n j : ℕ) {s : ℕ} (es : s ≡ span W h) where
-  pub kid-dead : {m : List ℕ} → n ≤ j * s → Marked (kidSound W top b h k n j) (kidBlocks W top b h k n j) m true m
+  pub kid-dead : {m : List ℕ} → n ≤ j * s → Marked (kidSound W top b h k n j) (childBlocks W b h k n j) m true m
   unfolding aligned
   kid-dead q =
       let q′ : n ≤ j * span W h = rw es at q in
@@ -63,8 +60,8 @@ module _ (W top : ℕ) (b : List ℕ) (h k n j : ℕ) {s : ℕ} (es : s ≡ span
     aligned-kid : aligned W (n - j * span W h) (cell W b k j) ≡ eqb l 0
     aligned-kid = let q′ : j * span W h < n = rw es at q in aligned-live W (n - j * span W h) (cell W b k j) (λ e. omega arith) ∙ rw (el, ep)
 
-    pub kid-low : {m m′ : List ℕ} → l ≢ 0 → Marked (kidSound W top b h k n j) (kidBlocks W top b h k n j) m false m′
+    pub kid-low : {m m′ : List ℕ} → l ≢ 0 → Marked (kidSound W top b h k n j) (childBlocks W b h k n j) m false m′
     kid-low f = Marking.fault (rw (aligned-kid, ne-eqb l 0 f))
 
-    pub kid-live : {d : ℕ} {m m′ : List ℕ} {ok : Bool} → d ≡ p / W → l ≡ 0 → Crawled W top b h d (n - j * s) m ok m′ → Marked (kidSound W top b h k n j) (kidBlocks W top b h k n j) m ok m′
+    pub kid-live : {d : ℕ} {m m′ : List ℕ} {ok : Bool} → d ≡ p / W → l ≡ 0 → Crawled W top b h d (n - j * s) m ok m′ → Marked (kidSound W top b h k n j) (childBlocks W b h k n j) m ok m′
     kid-live ed e c = Marking.same (rw (aligned-kid, eq-eqb l 0 e)) refl (rw (ed, ep, es) at (c .crawled))

@@ -51,7 +51,7 @@ fn reached(bits: u64, board: &&[u64], h: u64, k: u64, n: u64, i: u64) -> u64
 }
 
 // The walk to byte i of a tree.
-pub fn walk(bits: u64, board: &[u64], h: u64, k: u64, n: u64, i: u64) -> WalkEnd
+fn walk(bits: u64, board: &[u64], h: u64, k: u64, n: u64, i: u64) -> WalkEnd
     requires { ⌜ Reach bits h ⌝ }
     ensures { λ r. ⌜ r ≡ walk (2 ^ bits) (now (board .entry)) h k n i ⌝ }
 {

@@ -8,7 +8,8 @@ use borrow.Fn.PlainCycle.{Measures, is, falls, and}
 use Rattle.words.proofs.Widths as Widths
 use Rattle.words.proofs.start_of.Reads as start-of-reads
 use Rattle.building.proofs.take.Reads as take-reads
-use Rattle.growing.proofs.Growth.{null, no-levels, last-level, few-levels, below-small}
+use Rattle.growing.proofs.Growth.{null, no-levels, last-level, few-levels}
+use Rattle.plans.proofs.Onto.{below-small}
 use Rattle.plans.proofs.level_below.Reads as level-below-reads
 use Rattle.growing.proofs.levels.Reads as levels
 use Rattle.growing.proofs.levels.Kinds as kinds
@@ -49,7 +50,7 @@ module _ (t : ℕ) where
 
   start-of-requires : N lts.Need-start-of-requires
   start-of-requires c κs = let l = c .before .before .before in let s = l .before .before .before .before .before .before in
-      (search needs, below-small (s .args .k) (l .levels .result) (Widths.most (s .pre .1 .0)) (s .pre .1 .1) (s .pre .1 .2) (c .level-below .ensures))
+      (search needs, below-small (s .args .k) (l .levels .result) (s .pre .1 .0) (s .pre .1 .1) (s .pre .1 .2) (c .level-below .ensures))
 
   take-requires : N lts.Need-take-requires
   take-requires c κs = let l = c .before .before .before .before .before .before in let s = l .before .before .before .before .before .before in

@@ -1,7 +1,7 @@
 use native.Mathlib.Omega.{arith}
 use borrow.Author.Needs.{needs}
 use Rattle.model.specs.Board.{leaf, rootAddress}
-use Rattle.growing.proofs.Growth.{place, few-inodes}
+use Rattle.growing.proofs.Growth.{place}
 use Rattle.growing.proofs.root_address.Statement.{statement}
 use Rattle.growing.proofs.root_address.Tie as tie
 
@@ -10,7 +10,8 @@ start-in-requires c κs = let a = c .before .before .before .before .args in let
     rw (c .block-in .ensures) (omega (arith, place (a .kind) p (a .file) (omega arith)))
 
 mul-result : tie.Need-mul-result
-mul-result c = let a = c .before .before .before .before .before .before .args in omega (arith, c .inode-in .ensures, few-inodes (a .kind) (a .file))
+mul-result c = let p = c .before .before .before in let a = p .before .before .before .args in
+    omega (arith, c .inode-in .ensures, place (a .kind) (p .inode-pointer .result) (a .file) (omega arith))
 
 add-result : tie.Need-add-result
 add-result c = let a = c .before .before .before .before .before .before .args in let p = c .before .before .before .inode-pointer .result in

@@ -1,25 +1,26 @@
 -- The measure is the height; the loop has marked the children below j.
-use borrow.Author.Needs.{needs}
-use native.Mathlib.Omega.{arith}
 use mathlib.Core.Path.{_≡_, refl, _∙_}
 use mathlib.Core.Logic.{⊎-elim}
 use mathlib.Core.Bool.{Bool}
 use mathlib.Core.List.{List}
 use Prim.Native.Nat.{ℕ, _-_, _^_, _≤_, _<_}
+use native.Mathlib.Omega.{arith}
 use native.Mathlib.Nat.{mul-le-mul}
 use lib.ListN.{length}
+use borrow.Author.Needs.{needs}
 use borrow.Author.Tests.{not-true, not-false}
-use Rattle.model.specs.Lists.{every, joined}
-use Rattle.trees.specs.Marks.{Marked}
-use Rattle.trees.specs.Trees.{Crawled}
-use Rattle.trees.proofs.Marking
-use Rattle.trees.proofs.Crawling
 use borrow.Fn.Kinds.{In, Out}
 use borrow.Fn.PlainCycle.{Measures, is, falls, and}
+use Rattle.model.specs.Lists.{every, joined}
+use Rattle.model.proofs.Trees.{childBlocks}
 use Rattle.words.proofs.block_of.Reads as block-of-reads
 use Rattle.words.proofs.cell.Reads as cell-reads
 use Rattle.words.proofs.low_of.Reads as low-of-reads
 use Rattle.words.proofs.width.Reads as width-reads
+use Rattle.trees.specs.Marks.{Marked}
+use Rattle.trees.specs.Trees.{Crawled}
+use Rattle.trees.proofs.Marking
+use Rattle.trees.proofs.Crawling
 use Rattle.trees.proofs.Reaching.{lower}
 use Rattle.trees.proofs.crawl.Reads as crawl
 use Rattle.trees.proofs.crawl.Kinds as kinds
@@ -58,7 +59,7 @@ known t = (
 
 abbrev Inv-loop : lts.InvT-loop
 Inv-loop bits board marks₀ top h k n s w j₀ marks j =
-    (j ≤ w) × (length marks ≡ length marks₀) × Marking.Going (Crawling.kidSound (2 ^ bits) top board (h - 1) k n) (Crawling.kidBlocks (2 ^ bits) top board (h - 1) k n) marks₀ j marks
+    (j ≤ w) × (length marks ≡ length marks₀) × Marking.Going (Crawling.kidSound (2 ^ bits) top board (h - 1) k n) (childBlocks (2 ^ bits) board (h - 1) k n) marks₀ j marks
 
 abbrev μ-loop : lts.MeasureT-loop
 μ-loop bits board marks₀ top h k n s w j₀ marks j = w - j
@@ -70,7 +71,7 @@ module _ (t : ℕ) where
   -- what the loop says of the children is said of the tree
   node : {ok : Bool} {m : List ℕ} (c : N lts.After-width) → let u = c .before .before .before .before .before in let a = u .before .before .before .before .before .before .before .args in
       Marked (every (c .width .result) (Crawling.kidSound (2 ^ a .bits) (a .top) (a .board .now) (a .h - 1) (a .k) (a .n)))
-      (joined (c .width .result) (Crawling.kidBlocks (2 ^ a .bits) (a .top) (a .board .now) (a .h - 1) (a .k) (a .n)))
+      (joined (c .width .result) (childBlocks (2 ^ a .bits) (a .board .now) (a .h - 1) (a .k) (a .n)))
       (u .before .claim .last .0) ok m → Crawled (2 ^ a .bits) (a .top) (a .board .now) (a .h) (a .k) (a .n) (a .marks .now) ok m
   node c d = let u = c .before .before .before .before .before in
       Crawling.node (u .before .before .before .before .if1 .left) (u .before .before .before .if2 .left) (u .before .claim .ensures)

@@ -1,16 +1,16 @@
 -- The measure is the height; the loop has counted the children below j.
-use borrow.Author.Needs.{needs}
-use native.Mathlib.Omega.{arith}
 use mathlib.Core.Path.{_≡_}
 use mathlib.Core.Logic.{⊎-elim}
 use Prim.Native.Nat.{ℕ, _-_, _^_, _≤_, _<_}
+use native.Mathlib.Omega.{arith}
 use native.Mathlib.Nat.{mul-le-mul}
-use Rattle.trees.proofs.Holding
+use borrow.Author.Needs.{needs}
 use borrow.Fn.Kinds.{In, Out}
 use borrow.Fn.PlainCycle.{Measures, is, falls, and}
 use Rattle.words.proofs.block_of.Reads as block-of-reads
 use Rattle.words.proofs.cell.Reads as cell-reads
 use Rattle.words.proofs.width.Reads as width-reads
+use Rattle.trees.proofs.Holding
 use Rattle.trees.proofs.Reaching.{lower, two}
 use Rattle.trees.proofs.held_count.Reads as held-count
 use Rattle.trees.proofs.held_count.Kinds as kinds

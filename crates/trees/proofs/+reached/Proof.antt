@@ -1,20 +1,20 @@
 -- The measure is the height.
-use borrow.Author.Needs.{needs}
 use mathlib.Core.Path.{_≡_, refl, sym, _∙_}
 use mathlib.Core.Logic.{_≢_}
 use mathlib.Core.List.{List}
 use Prim.Native.Nat.{ℕ, _-_, _*_, _/_, _%_, _^_, _≤_, _<_}
 use native.Mathlib.Nat.{div-mul-le-self, div-add-mod'}
 use native.Mathlib.Omega.{arith}
+use borrow.Author.Needs.{needs}
+use borrow.Fn.Kinds.{In, Out}
+use borrow.Fn.PlainCycle.{Measures, is, falls, and}
 use Rattle.model.specs.declared.WalkEnd.the-variants.{Hole}
 use Rattle.model.specs.Tree.{span, cell, ending, walk}
 use Rattle.model.proofs.Trees.{walk-dead, walk-null, walk-here, walk-down}
-use Rattle.trees.proofs.Ending.{end-here}
-use Rattle.trees.proofs.Reaching.{lower}
-use borrow.Fn.Kinds.{In, Out}
-use borrow.Fn.PlainCycle.{Measures, is, falls, and}
 use Rattle.words.proofs.cell.Reads as cell-reads
 use Rattle.words.proofs.block_of.Reads as block-of-reads
+use Rattle.trees.proofs.Ending.{end-here}
+use Rattle.trees.proofs.Reaching.{lower}
 use Rattle.trees.proofs.span.Reads as span-reads
 use Rattle.trees.proofs.reached.Reads as reached
 use Rattle.trees.proofs.reached.Kinds as kinds

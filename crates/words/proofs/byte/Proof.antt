@@ -6,7 +6,7 @@ use Rattle.words.proofs.byte.Tie as tie
 
 returns : tie.Need-returns
 unfolding byteOf
-returns c = rw (← shift (c .args .i))
+returns c = rw (← shift 8 (c .args .i))
 
 pub byte-spec : {M : Type 1} → statement M
 byte-spec = tie.close (tie.spec (λ c. search needs) (λ c. search needs) (λ c. search needs) returns)
