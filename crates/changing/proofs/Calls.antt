@@ -1,6 +1,5 @@
 -- The ways out of the calls that change a file.
 use mathlib.Core.Path.{_≡_, refl, sym, ap, _∙_}
-use mathlib.Core.Logic.{inl, inr}
 use mathlib.Core.List.{List, [], _∷_, _++_}
 use Prim.Native.Nat.{ℕ, _+_, _/_, _≤_, _<_}
 use native.Mathlib.Omega.{arith}
@@ -19,12 +18,11 @@ use Rattle.model.specs.Plan.{Plan, plan, pairs, planEpochs}
 use Rattle.model.specs.Change.{writePlan, lengthPlan}
 use Rattle.model.specs.Answers.{Faults, answered}
 use Rattle.model.specs.Calls.{Planned, fileFaults, checkAnswer, planned, lowest, writeFaults, writeFrom, write, setLength}
-use Rattle.model.proofs.Cases.{split}
-use Rattle.model.proofs.Refusals.{not-refused, first-refused, first-done, checked, check-accepts}
+use Rattle.model.proofs.Refusals.{first-refused, first-done, checked, check-accepts}
 use Rattle.plans.specs.Laying.{Laid, PlanResult}
 use Rattle.plans.proofs.Laying.{laid-none}
 use Rattle.plans.proofs.Refusing.{turned, too-short, long-enough}
-use Rattle.reading.proofs.Answering.{file-refused, file-none, file-there}
+use Rattle.reading.proofs.Answering.{file-there, file-found}
 use Rattle.kinds.proofs.Figures.{files-32}
 use Rattle.plans.specs.Onto.{taking}
 use Rattle.growing.specs.declared.Count.{Count}
@@ -54,14 +52,7 @@ module _ (kind : Kind) where
   file-done {b} {f} k = file-there g b f refl (checked g b (k .board)) (rw (files-32 kind) (k .file))
 
   pub done-file : {b : List ℕ} {f v : ℕ} {r : Answer} → r ≡ answered (fileFaults g b f) 0 → r ≡ Done v → File kind b f
-  done-file {b} {f} {v} {r} e z = by (checkAnswer g b) refl
-    where
-      by : (a : Answer) → checkAnswer g b ≡ a → File kind b f
-      by (Done u) c = elim (split f 31) [
-        | inl l ↦ there refl c l
-        | inr l ↦ absurd (not-refused z (e ∙ sym (file-none g b f refl c (rw (files-32 kind) l))))
-      ]
-      by (Refused x) c = absurd (not-refused z (e ∙ sym (file-refused g b f refl c) ∙ c))
+  done-file {b} {f} e z = let k = file-found g b f e z in record { board = k .0; file = rw (files-32 kind) at (k .1) }
 
   -- ---- Write
 
