@@ -40,9 +40,9 @@ block-room House v l = omega arith
 block-room Published v l = omega arith
 
 -- 1,024 marks are enough for every board
-pub few : (k : Kind) → layoutOf k .most ≤ 1024
-few House = omega arith
-few Published = omega arith
+pub few-blocks : (k : Kind) → layoutOf k .most ≤ 1024
+few-blocks House = omega arith
+few-blocks Published = omega arith
 
 -- there are 32 files
 pub files-32 : (k : Kind) → files (layoutOf k) ≡ 32

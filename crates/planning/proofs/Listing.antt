@@ -22,7 +22,7 @@ use Rattle.model.proofs.Census.{free-at}
 use Rattle.surveying.specs.Survey.{spare, Surveyed}
 use Rattle.surveying.proofs.Reached.{pick-next, pick-none}
 use Rattle.surveying.proofs.Surveying.{short, sound, free-spare}
-use Rattle.kinds.proofs.Figures.{words-pos, few as figure}
+use Rattle.kinds.proofs.Figures.{words-pos, few-blocks as figure}
 use Rattle.plans.specs.Onto.{taking}
 use Rattle.planning.specs.Asked.{Listed, File, Stocked}
 

@@ -27,17 +27,26 @@ grown-root-requires : tie.Need-grown-root-requires
 grown-root-requires c κs = let s = c .before .before .before .before .before .before .before .before in (s .pre .0 .width, s .pre .1, rw (← s .pre .0 .is) (s .pre .2), s .pre .3)
 
 start-of-requires : tie.Need-start-of-requires
-start-of-requires c κs = (omega (arith, c .before .before .before .before .before .before .before .before .before .before .pre .0 .width .high), omega (arith, places (c .before .before .before .before)))
+start-of-requires c κs =
+    let l = c .before .before .before .before in
+    let s = l .before .before .before .before .before .before in
+    (omega (arith, s .pre .0 .width .high), omega (arith, places l))
 
 commit-requires : tie.Need-commit-requires
 commit-requires c κs = omega (arith, places (c .before .before .before .before .before), c .start-of .ensures)
 
 returns : tie.Need-returns
-returns c = let s = c .before .before .before .before .before .before .before .before .before .before .before .before .before .before in let is = s .pre .0 .is in let l = c .before .before .before .before .before .before .before .before in
-    growth-laid (layoutOf (s .args .kind)) (s .args .inode) (s .args .h)
-    (rw (c .before .before .before .before .before .before .before .before .before .before .block-of .ensures, c .before .before .before .before .before .before .before .before .before .low-of .ensures, ← is) at (l .levels .ensures))
-    (rw (← is) at (c .before .before .before .before .before .grown-root .ensures))
-    (rw (c .before .before .before .start-of .ensures, ← is) at (c .before .before .commit .ensures))
+returns c =
+    let m = c .before .before in
+    let t = m .before in
+    let r = t .before .before in
+    let l = r .before .before .before in
+    let h = l .before in
+    let k = h .before in
+    let s = k .before .before .before .before in
+    let is = s .pre .0 .is in
+    growth-laid (layoutOf (s .args .kind)) (s .args .inode) (s .args .h) (rw (k .block-of .ensures, h .low-of .ensures, ← is) at (l .levels .ensures))
+    (rw (← is) at (r .grown-root .ensures)) (rw (t .start-of .ensures, ← is) at (m .commit .ensures))
 
 pub grow-spec : {M : Type 1} → statement M
 grow-spec = tie.close (tie.spec (λ c κs. search needs) (λ c κs. search needs) sub-levels levels-requires grown-root-requires start-of-requires commit-requires (λ c. search needs) returns)

@@ -1,5 +1,5 @@
 use borrow.Author.Needs.{needs}
-use Rattle.kinds.proofs.Figures.{words-pos, few}
+use Rattle.kinds.proofs.Figures.{words-pos, few-blocks}
 use Rattle.reading.proofs.Answering.{count-refused, count-free}
 use Rattle.reading.proofs.free_count_kind.Statement.{statement}
 use Rattle.reading.proofs.free_count_kind.Tie as tie
@@ -9,7 +9,7 @@ returns c = count-refused (c .before .before .before .survey .ensures) (c .enum-
 
 returns-2 : tie.Need-returns-2
 returns-2 c = let t = c .before .before .before in let k = t .before .before .before .before .before .before .args .kind in
-    count-free (t .before .before .before .survey .ensures) (words-pos k) (few k) (t .enum-told .given .1) (c .before .before .last .ensures) (c .unmarked .ensures)
+    count-free (t .before .before .before .survey .ensures) (words-pos k) (few-blocks k) (t .enum-told .given .1) (c .before .before .last .ensures) (c .unmarked .ensures)
 
 pub free-count-kind-spec : {M : Type 1} → statement M
 free-count-kind-spec =

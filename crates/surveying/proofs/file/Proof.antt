@@ -30,8 +30,9 @@ crawl-requires : tie.Need-crawl-requires
 crawl-requires c κs =
     let i = c .before .before .before in
     let h = i .before in
-    let a = c .before .before .before .before .before .before .before .before .before .before .before .before .before in
-    reach (a .args .kind) (a .pre) (rw (h .top-height .ensures) at (i .if3 .left))
+    let n = h .before .before .before .before .before .before in
+    let s = n .before .before .before in
+    reach (s .args .kind) (s .pre) (rw (h .top-height .ensures) at (i .if3 .left))
 
 returns-4 : tie.Need-returns-4
 returns-4 c =
