@@ -1,5 +1,5 @@
 -- What the proofs of several functions use: pages laid for fresh blocks (Taken), how many there are at most (Room), words with bytes written into them (Splicing), trees that are
--- written whole (WholeTrees), and the blocks of a fresh tree (Trees).
+-- written from their start (WholeTrees), and the blocks of a fresh tree (Trees).
 pub mod Taken
 pub mod Room
 pub mod Splicing

@@ -49,29 +49,30 @@ pub block-small : {free : List ℕ} {k : ℕ} (c : ℕ) → Blocks free → k �
 unfolding taking
 block-small c b e = rw e (b .small c)
 
-pub one : {W : ℕ} {free plan plan′ : List ℕ} {base c k : ℕ} {p : Page} → k ≡ getD free c 0 → plan′ ≡ laid plan (base + W * c) (tabulate W (pageStore W k p))
-    → Took W free plan base c (p ∷ []) plan′ (c + 1)
-unfolding stored taking
-one {W} {free} {plan} {plan′} {base} {c} {k} {p} e l = record {
-  is = rw e at l ∙ ap (laid plan (base + W * c)) (sym (append-nil (tabulate W (pageStore W (getD free c 0) p))));
+-- stores laid from place p on, to the block that begins at address a
+pub one : {W : ℕ} {free plan plan′ : List ℕ} {base c p a : ℕ} {page : Page} → p ≡ base + W * c → a ≡ W * taking free c → plan′ ≡ laid plan p (tabulate W (λ j. store (a + j) (page j)))
+    → Took W free plan base c (page ∷ []) plan′ (c + 1)
+unfolding stored
+one {W} {free} {plan} {base = base} {c} {page = page} ep ea l = record {
+  is = rw (ep, ea) at l ∙ ap (laid plan (base + W * c)) (sym (append-nil (tabulate W (pageStore W (taking free c) page))));
   next = refl;
 }
 
-pub one-block : {W : ℕ} {free plan plan′ : List ℕ} {base c k : ℕ} (ws : List ℕ) → k ≡ getD free c 0 → plan′ ≡ laid plan (base + W * c) (blockStores W k ws)
+pub one-block : {W : ℕ} {free plan plan′ : List ℕ} {base c p k : ℕ} (ws : List ℕ) → p ≡ base + W * c → k ≡ getD free c 0 → plan′ ≡ laid plan p (blockStores W k ws)
     → Took W free plan base c ((λ j. getD ws j 0) ∷ []) plan′ (c + 1)
-unfolding blockStores
-one-block ws e l = one e l
+unfolding blockStores taking
+one-block {W} ws ep e l = one ep (ap (λ (x : ℕ). W * x) e) l
 
 -- how many blocks are taken is a word, if the places of their stores are
 pub count-small : {b : ℕ} (base c : ℕ) → Width b → base + 2 ^ b * c ≤ 2 ^ 32 → c ≤ 2 ^ 29
 count-small base c w l = omega (arith, mul-le-mul-right c (Widths.least w))
 
 -- off the plan nothing is laid
-pub off-all : {W : ℕ} {free plan : List ℕ} {base c r : ℕ} {ps : List Page} → length plan ≤ base + W * c → r ≡ length ps → Took W free plan base c ps plan (c + r)
-off-all {W} {free} {plan} {base} {c} {r} {ps} h e = record { is = sym (Laying.laid-out plan (base + W * c) _ h); next = rw e }
+pub off-all : {W : ℕ} {free plan : List ℕ} {base c p r : ℕ} {ps : List Page} → p ≡ base + W * c → length plan ≤ p → r ≡ length ps → Took W free plan base c ps plan (c + r)
+off-all {W} {free} {plan} {base} {c} ep h e = record { is = sym (Laying.laid-out plan (base + W * c) _ (rw ep at h)); next = rw e }
 
-pub off : {W : ℕ} {free plan : List ℕ} {base c : ℕ} {p : Page} → length plan ≤ base + W * c → Took W free plan base c (p ∷ []) plan (c + 1)
-off h = off-all h refl
+pub off : {W : ℕ} {free plan : List ℕ} {base c p : ℕ} {page : Page} → p ≡ base + W * c → length plan ≤ p → Took W free plan base c (page ∷ []) plan (c + 1)
+off ep h = off-all ep h refl
 
 -- a page by its words, as far as they are laid
 pub by-words : {W : ℕ} {free plan plan′ : List ℕ} {base c c′ : ℕ} (ws : List ℕ) {p : Page} → ((j : ℕ) → j < W → getD ws j 0 ≡ p j)

@@ -1,27 +1,25 @@
 -- Fresh trees as they are laid: the pages of a pointer block's children one after another, then its own.
 use mathlib.Core.Path.{_≡_, refl, sym, ap, _∙_}
 use mathlib.Core.Logic.{_≢_, inl, inr}
-use mathlib.Core.Bool.{true, false, _&&_}
+use mathlib.Core.Bool.{true, false}
 use mathlib.Core.List.{List, [], _∷_, _++_}
 use Prim.Native.Nat.{ℕ, zero, suc, _+_, _-_, _*_, _/_, _^_, _≤_, _<_}
 use native.Mathlib.Nat.{mul-suc, mul-le-mul-left}
 use native.Mathlib.Omega.{arith}
 use native.Mathlib.Numerals.{add-one, sub-one}
 use lib.ListN.{length, getD, set, take, List·getD-append, length-take, length-append}
-use lib.Dec.{eqb}
 use lib.Seq.{getD-set-same, getD-set-other, getD-take}
 use borrow.Rule.Slice.PartMut.{putMid, postOf}
 use Rattle.model.specs.Lists.{joined}
 use Rattle.model.specs.Tree.{seen, span, link}
-use Rattle.model.specs.Fresh.{Page, part, partLength, touched, freshNeed, freshBefore, dataPage, pointerPage, build}
+use Rattle.model.specs.Fresh.{Page, part, partLength, touched, freshNeed, freshBefore, need, dataPage, pointerPage, build}
 use Rattle.model.proofs.Cases.{decide, length-joined}
 use Rattle.model.proofs.Agree.{seen-live, seen-dead}
 use Rattle.model.proofs.Splice.{length-part, choose-zero, choose-pos}
-use Rattle.model.proofs.Paths.{kidNeed, fresh-none, fresh-node, fresh-pos}
+use Rattle.model.proofs.Paths.{kidNeed, fresh-none, fresh-node, fresh-pos, fresh-quiet}
 use Rattle.model.proofs.Built.{kid, kid-lengths, build-none, build-data, build-node, length-build, room}
 use Rattle.plans.specs.Onto.{taking}
-use Rattle.building.specs.Taking.{Took, whole}
-use Rattle.building.proofs.WholeTrees.{fresh-whole, all-of}
+use Rattle.building.specs.Taking.{Took}
 use Rattle.building.proofs.Taken as Taken
 
 -- ---- What is built
@@ -35,11 +33,11 @@ module _ (W : ℕ) (pos : 0 < W) (free b : List ℕ) (h k n o : ℕ) (new : List
   abbrev pub pointers : Page
   pointers = pointerPage W (taking free) b h k n o (length new) c
 
-pub built-data : (W : ℕ) → 0 < W → (fresh : ℕ → ℕ) (b : List ℕ) (h k n o : ℕ) (new : List ℕ) (c : ℕ) → touched W h k n o (length new) ≡ true → h ≡ 0 → build W fresh b h k n o new c ≡ dataPage W b k n o new ∷ []
+built-data : (W : ℕ) → 0 < W → (fresh : ℕ → ℕ) (b : List ℕ) (h k n o : ℕ) (new : List ℕ) (c : ℕ) → touched W h k n o (length new) ≡ true → h ≡ 0 → build W fresh b h k n o new c ≡ dataPage W b k n o new ∷ []
 built-data W pos fresh b zero k n o new c t e = build-data W pos b fresh k n o new c t
 built-data W pos fresh b (suc h) k n o new c t e = absurd (omega arith)
 
-pub built-tree : (W : ℕ) (pos : 0 < W) (free b : List ℕ) (h k n o : ℕ) (new : List ℕ) (c : ℕ) → touched W h k n o (length new) ≡ true → h ≢ 0
+built-tree : (W : ℕ) (pos : 0 < W) (free b : List ℕ) (h k n o : ℕ) (new : List ℕ) (c : ℕ) → touched W h k n o (length new) ≡ true → h ≢ 0
     → joined W (child W pos free b (h - 1) k n o new c) ++ (pointers W pos free b (h - 1) k n o new c ∷ []) ≡ build W (taking free) b h k n o new c
 built-tree W pos free b zero k n o new c t tall = absurd (tall refl)
 built-tree W pos free b (suc h) k n o new c t tall = rw (sub-one (suc h)) (sym (build-node W pos b (taking free) h k n o new c t))
@@ -74,7 +72,7 @@ lent {j} {w} m page part l fits =
 module _ {W : ℕ} {pos : 0 < W} {free b : List ℕ} {h k n o : ℕ} {new plan₀ : List ℕ} {base c j : ℕ} {plan page : List ℕ} {taken : ℕ}
     (t : Children W pos free b h k n o new plan₀ base c j plan page taken) where
   -- how many blocks are taken
-  pub taken-before : taken ≡ c + freshBefore W b h k n o (length new) j
+  taken-before : taken ≡ c + freshBefore W b h k n o (length new) j
   taken-before = omega (arith, t .took .next, length-joined j (child W pos free b h k n o new c), kid-lengths W pos b (taking free) h k n o new c j)
 
   -- a turn: child j's pages are laid, and its pointer v is stored
@@ -115,13 +113,13 @@ module _ {W : ℕ} {pos : 0 < W} {free b : List ℕ} {h k n o : ℕ} {new plan�
         old-child live = turn nothing (ex ∙ sym (old ∙ seen-live (n - j * span W h) (link W b k j) (omega (arith, rw es at live)))) kept
 
     module _ {page′ : List ℕ} (kept : Kept j page page′) where
-      pub fresh-child : {plan′ page″ : List ℕ} {taken′ block v : ℕ} → touched W h d m o′ (length own) ≡ true → Took W free plan base taken (build W (taking free) b h d m o′ own taken) plan′ taken′
-          → block ≡ getD free (taken′ - 1) 0 → v ≡ W * block → page″ ≡ set page′ j v → Children W pos free b h k n o new plan₀ base c (j + 1) plan′ page″ taken′
-      unfolding pointerPage taking
-      fresh-child {plan′} {page″} {taken′} {block} {v} some u eb ev =
+      pub fresh-child : {plan′ page″ : List ℕ} {taken′ v : ℕ} → touched W h d m o′ (length own) ≡ true → Took W free plan base taken (build W (taking free) b h d m o′ own taken) plan′ taken′
+          → v ≡ W * taking free (taken′ - 1) → page″ ≡ set page′ j v → Children W pos free b h k n o new plan₀ base c (j + 1) plan′ page″ taken′
+      unfolding pointerPage
+      fresh-child {plan′} {page″} {taken′} {v} some u ev =
           let l : ℕ = kidNeed W b h k n o (length new) j in
           let at : taken′ ≡ c + freshBefore W b h k n o (length new) j + l = omega (arith, u .next, length-build W pos b (taking free) h d m o′ own taken, count, taken-before) in
-          turn (Taken.same-pages same u) (ev ∙ ap (λ (y : ℕ). W * y) eb ∙ ap (λ (y : ℕ). W * getD free (y - 1) 0) at
+          turn (Taken.same-pages same u) (ev ∙ ap (λ (y : ℕ). W * taking free (y - 1)) at
           ∙ sym (choose-pos l _ _ (omega (arith, count, fresh-pos W b h d m o′ (length own) some)))) kept
 
 -- ---- The tree
@@ -139,13 +137,13 @@ pub taken-some : {W : ℕ} → 0 < W → {free plan₀ plan : List ℕ} {base c 
     → Took W free plan₀ base c (build W (taking free) b h k n o new c) plan taken → 0 < taken
 taken-some {W} pos {free} {c = c} b h k n o new some t = omega (arith, t .next, length-build W pos b (taking free) h k n o new c, fresh-pos W b h k n o (length new) some)
 
--- off the plan a tree that is written whole is counted
-pub counted : {W : ℕ} → 0 < W → {free plan : List ℕ} {base c r : ℕ} (b : List ℕ) (h k n o : ℕ) (new : List ℕ) → length plan ≤ base + W * c
-    → true ≡ (eqb o 0 && eqb (length new) (span W h)) → r ≡ whole W h → Took W free plan base c (build W (taking free) b h k n o new c) plan (c + r)
-counted {W} pos {free} {c = c} {r} b h k n o new out all e =
-    let whole-one = all-of o (length new) (span W h) all in
-    let long : length (build W (taking free) b h k n o new c) ≡ whole W h = length-build W pos b (taking free) h k n o new c ∙ rw (whole-one .0, whole-one .1) (fresh-whole W pos b h k n) in
-    Taken.off-all out (rw (e, long))
+-- off the plan a tree that is written from its start is counted
+pub counted : {W : ℕ} → 0 < W → {free plan : List ℕ} {base c p r : ℕ} (b : List ℕ) (h k n o : ℕ) (new : List ℕ) → p ≡ base + W * c → length plan ≤ p
+    → o ≡ 0 → r ≡ need W h 0 (length new) → Took W free plan base c (build W (taking free) b h k n o new c) plan (c + r)
+counted {W} pos {free} {c = c} b h k n o new ep out first e =
+    let long : length (build W (taking free) b h k n o new c) ≡ need W h 0 (length new) =
+    length-build W pos b (taking free) h k n o new c ∙ rw first (fresh-quiet W b h k n 0 (length new) (inr (inr (omega arith)))) in
+    Taken.off-all ep out (rw (e, long))
 
 need-tall : (W : ℕ) (b : List ℕ) (h k n o l : ℕ) → h ≢ 0 → freshNeed W b (suc (h - 1)) k n o l ≡ freshNeed W b h k n o l
 need-tall W b h k n o l tall = let e : suc (h - 1) ≡ h = omega arith in ap (λ (x : ℕ). freshNeed W b x k n o l) e

@@ -1,7 +1,7 @@
 -- Fresh blocks as they are taken, from a table of the free ones, and the words and the size of a fresh tree.
 use mathlib.Core.Path.{_≡_}
 use mathlib.Core.List.{List}
-use Prim.Native.Nat.{ℕ, zero, suc, _+_, _-_, _*_, _<_}
+use Prim.Native.Nat.{ℕ, zero, suc, _+_, _-_, _*_, _^_, _≤_, _<_}
 use lib.ListN.{length, getD}
 use Rattle.model.specs.Lists.{tabulate}
 use Rattle.model.specs.Words.{byteOf, wordOf}
@@ -15,6 +15,11 @@ use Rattle.plans.specs.Onto.{taking}
 pub record Took (W : ℕ) (free plan : List ℕ) (base c : ℕ) (ps : List Page) (plan′ : List ℕ) (c′ : ℕ) : Type 0 where
   pub is : plan′ ≡ laid plan (base + W * c) (stored W (taking free) ps c)
   pub next : c′ ≡ c + length ps
+
+-- r is the pointer to the block that is taken i-th; the block's words have addresses
+pub record PointerTo (W : ℕ) (free : List ℕ) (i r : ℕ) : Type 0 where
+  pub is : r ≡ W * taking free i
+  pub small : r + 512 ≤ 2 ^ 63
 
 -- byte i of word j of a block with `new` written at o: x stood in the word, and n bytes of the block were visible
 unfoldable pub splicedByte : ℕ → ℕ → ℕ → List ℕ → ℕ → ℕ → ℕ
@@ -34,7 +39,7 @@ unfoldable pub whole : ℕ → ℕ → ℕ
 whole W zero = 1
 whole W (suc h) = W * whole W h + 1
 
--- r is how many they are
-pub record Whole (W h r : ℕ) : Type 0 where
-  pub is : r ≡ whole W h
+-- r is x, a number of blocks of a tree of height h: fewer than the bytes that it spans
+pub record TreeCount (W h x r : ℕ) : Type 0 where
+  pub is : r ≡ x
   pub most : r < span W h

@@ -20,13 +20,12 @@ ghost use Prim.Native.Nat.{_+_, _-_, _*_, _^_, _≤_, _<_};
 ghost use lib.ListN.{length, getD};
 ghost use lib.Dec.{eqb};
 ghost use Rattle.model.specs.Words.{wordOf};
-ghost use Rattle.model.specs.Tree.{span};
 ghost use Rattle.model.specs.Store.{laid};
-ghost use Rattle.model.specs.Fresh.{part, partLength, touched, freshNeed, dataPage, build};
+ghost use Rattle.model.specs.Fresh.{part, partLength, touched, freshNeed, need, dataPage, build};
 ghost use Rattle.words.specs.Width.{Width};
 ghost use Rattle.trees.specs.Trees.{Reach};
 ghost use Rattle.plans.specs.Onto.{taking, Blocks, onto, Pointers};
-ghost use Rattle.building.specs.Taking.{Took, splicedByte, SplicedByte, newStores, Whole};
+ghost use Rattle.building.specs.Taking.{Took, PointerTo, splicedByte, SplicedByte, newStores, whole, TreeCount};
 
 // a - b, or 0.
 pub fn minus(a: u64, b: u64) -> u64
@@ -104,8 +103,8 @@ pub fn spliced(x: u64, n: u64, o: u64, new: &[u8], j: u64) -> u64
     value
 }
 
-// Word j of data block k with `new` written at o. Where all of it is written, nothing is read of the board.
-fn data_word(
+// Word j of data block k with `new` written at o.
+pub fn data_word(
     bits: u64,
     board: &[u64],
     grown: Grown,
@@ -119,14 +118,23 @@ fn data_word(
     requires { ⌜ Pointers bits (now free) grown × (j ≤ 512) ⌝ }
     ensures { λ r. ⌜ r ≡ dataPage (2 ^ bits) (onto (2 ^ bits) (now (free .entry)) (now (board .entry)) grown) k n o (now (new .entry)) j ⌝ }
 {
-    let first = 8 * j;
-    if o <= first {
-        let d = (first - o) as usize;
-        if d + 8 <= new.len() {
-            return word_at(new, d);
-        }
-    }
     spliced(link_on(bits, board, grown, free, k, j), n, o, new, j)
+}
+
+// Where the stores of the block that is taken c-th stand in the plan.
+pub fn place(bits: u64, base: u64, c: u64) -> u64
+    requires { ⌜ Width bits × (base + 2 ^ bits * c ≤ 2 ^ 32) ⌝ }
+    ensures { λ r. ⌜ r ≡ base + 2 ^ bits * c ⌝ }
+{
+    base + start_of(bits, c)
+}
+
+// The pointer to the block that is taken i-th.
+pub fn pointer(bits: u64, free: &[u64], i: u64) -> u64
+    requires { ⌜ Width bits × Blocks (now free) ⌝ }
+    ensures { λ r. ⌜ PointerTo (2 ^ bits) (now (free .entry)) i r ⌝ }
+{
+    start_of(bits, word(free, i))
 }
 
 // Takes the next free block for a page and lays its stores. Answers how many are taken then.
@@ -134,19 +142,19 @@ pub fn take(bits: u64, free: &[u64], plan: &mut [u64], base: u64, page: &[u64], 
     requires { ⌜ Width bits × Blocks (now free) × (base + 2 ^ bits * (c + 1) ≤ 2 ^ 32) ⌝ }
     ensures { λ r. ⌜ Took (2 ^ bits) (now (free .entry)) (now (plan .entry)) base c ((λ j. getD (now (page .entry)) j 0) ∷ []) (now (plan .exit)) r ⌝ }
 {
-    block(bits, plan, base + start_of(bits, c), word(free, c), page);
+    block(bits, plan, place(bits, base, c), word(free, c), page);
     c + 1
 }
 
-// Whether l bytes written at o are all of a tree of height h.
-fn all_written(bits: u64, h: u64, o: u64, l: u64) -> bool
-    requires { ⌜ Reach bits h ⌝ }
-    ensures { λ r. ⌜ r ≡ (eqb o 0 && eqb l (span (2 ^ bits) h)) ⌝ }
+// Whether l bytes written at o are all of a data block.
+fn all_written(bits: u64, o: u64, l: u64) -> bool
+    requires { ⌜ Width bits ⌝ }
+    ensures { λ r. ⌜ r ≡ (eqb o 0 && eqb l (8 * 2 ^ bits)) ⌝ }
 {
     if o != 0 {
         return false;
     }
-    l == span(bits, h)
+    l == 8 * width(bits)
 }
 
 // Lays the stores of the block that begins at address `to` and is written whole, from place p on.
@@ -180,12 +188,12 @@ fn take_data(
     ensures { λ r. ⌜ Took (2 ^ bits) (now (free .entry)) (now (plan .entry)) base c
         (dataPage (2 ^ bits) (onto (2 ^ bits) (now (free .entry)) (now (board .entry)) grown) k n o (now (new .entry)) ∷ []) (now (plan .exit)) r ⌝ }
 {
-    let p = base + start_of(bits, c);
+    let p = place(bits, base, c);
     if plan.len() as u64 <= p {
         return c + 1;
     }
-    let to = start_of(bits, word(free, c));
-    if all_written(bits, 0, o, new.len() as u64) {
+    let to = pointer(bits, free, c);
+    if all_written(bits, o, new.len() as u64) {
         lay_new(bits, plan, p, to, new);
         return c + 1;
     }
@@ -237,7 +245,7 @@ fn child_touched(gap: bool, bits: u64, h: u64, k: u64, n: u64, o: u64, l: u64) -
 // How many blocks a whole tree of height h has.
 fn whole(bits: u64, h: u64) -> u64
     requires { ⌜ Reach bits h ⌝ }
-    ensures { λ r. ⌜ Whole (2 ^ bits) h r ⌝ }
+    ensures { λ r. ⌜ TreeCount (2 ^ bits) h (whole (2 ^ bits) h) r ⌝ }
 {
     if h == 0 {
         return 1;
@@ -245,8 +253,27 @@ fn whole(bits: u64, h: u64) -> u64
     start_of(bits, whole(bits, h - 1)) + 1
 }
 
+// How many fresh blocks a tree of height h takes when l bytes are written from its start: its children are whole, but for one that gets the rest.
+pub fn tree_need(bits: u64, h: u64, l: u64) -> u64
+    requires { ⌜ Reach bits h ⌝ }
+    ensures { λ r. ⌜ TreeCount (2 ^ bits) h (need (2 ^ bits) h 0 l) r ⌝ }
+{
+    if l == 0 {
+        return 0;
+    }
+    if h == 0 {
+        return 1;
+    }
+    let s = span(bits, h - 1);
+    let q = l / s;
+    if width(bits) <= q {
+        return whole(bits, h);
+    }
+    q * whole(bits, h - 1) + tree_need(bits, h - 1, l - q * s) + 1
+}
+
 // Lays the fresh blocks of the tree (h, k, n), its own among them, with `new` written at o. Answers how many are taken then. `pages` has room for a page
-// on each level. Off the plan a tree that is written whole is only counted.
+// on each level. Off the plan a tree that is written from its start is only counted.
 fn build_fresh(
     bits: u64,
     board: &[u64],
@@ -270,9 +297,9 @@ fn build_fresh(
     if h == 0 {
         return take_data(bits, board, grown, free, plan, base, k, n, o, new, c);
     }
-    if plan.len() as u64 <= base + start_of(bits, c) {
-        if all_written(bits, h, o, new.len() as u64) {
-            return c + whole(bits, h);
+    if plan.len() as u64 <= place(bits, base, c) {
+        if o == 0 {
+            return c + tree_need(bits, h, new.len() as u64);
         }
     }
     let g = h - 1;
@@ -307,7 +334,7 @@ fn build_fresh(
                 own,
                 taken,
             );
-            value = start_of(bits, word(free, taken - 1));
+            value = pointer(bits, free, taken - 1);
         } else if first < n {
             value = x;
         }

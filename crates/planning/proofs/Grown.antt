@@ -16,10 +16,12 @@ use Rattle.model.specs.Board.{greatest}
 use Rattle.model.specs.Store.{Store, store, barrier, performed, fenced, laid}
 use Rattle.model.specs.Plan.{Step, Plan, plan, step, stepEpochs, planEpochs, pairs, afterwards}
 use Rattle.model.specs.Fresh.{Page, stored}
-use Rattle.model.specs.Change.{levelPage, levelBelow, levels, levelTop, growing, growthTo, growth, grownInode, isTail, emptyTailTo, emptyTail, tail, shadowInside, shadowWithLength, chosenWay, grownPlan}
+use Rattle.model.specs.Change.{levelPage, levelBelow, levels, levelTop, growing, grownRoot, growthTo, growth, grownInode, isTail, emptyTailTo, emptyTail, tail, shadowInside, shadowWithLength, chosenWay, grownPlan}
 use Rattle.model.proofs.Spans.{least-reaches}
 use Rattle.model.proofs.Perform.{length-tabulate, length-stored}
-use Rattle.model.proofs.Steps.{step-some}
+use Rattle.model.proofs.Steps.{step-some, steps-stores}
+use Rattle.words.specs.Width.{Width}
+use Rattle.kinds.specs.Figures.{Bits}
 use Rattle.kinds.proofs.Figures.{fits, words-pos, low-height}
 use Rattle.plans.specs.declared.Grown.{Grown}
 use Rattle.plans.specs.Laying.{closing, Laid}
@@ -30,8 +32,8 @@ use Rattle.growing.specs.declared.Count.{Count}
 use Rattle.growing.specs.Planned.{PlanLaid}
 use Rattle.growing.proofs.Growth.{levels-most}
 use Rattle.growing.proofs.OneStep.{step-plan}
-use Rattle.ways.specs.Planning.{Ready}
-use Rattle.planning.specs.Asked.{Growable, Pages}
+use Rattle.ways.specs.Planning.{Pages, Ready}
+use Rattle.planning.specs.Asked.{Growable}
 use Rattle.planning.proofs.Growing.{spanned, grown-height}
 
 -- ---- Pairs of two plans
@@ -89,12 +91,6 @@ way-some g fresh b n o new c = by (isTail g b n o) (leb (o + length new) (n .siz
 
 -- ---- The board with growth performed
 
--- the stores of a step
-step-stores : (ss : List Store) (a v : ℕ) → concat (planEpochs (step ss a v ∷ [])) ≡ ss ++ (store a v ∷ [])
-unfolding planEpochs stepEpochs step concat
-step-stores [] a v = refl
-step-stores (s ∷ ss) a v = refl
-
 -- growth's levels, by how many there are
 levels-all : (W : ℕ) (fresh : ℕ → ℕ) (k d : ℕ) → tabulate (length (levels W fresh k d)) (λ i. levelPage W (levelBelow fresh k i)) ≡ levels W fresh k d
 unfolding levels tabulate
@@ -103,13 +99,13 @@ levels-all W fresh (suc k) d = ap (λ (m : ℕ). tabulate m (λ i. levelPage W (
 
 -- what is planned after growth sees the board with growth's stores performed
 onto-grown : (g : Layout) (b free : List ℕ) (n : Inode) (h : ℕ) {k t v : ℕ} → k ≡ n .root / g .words → t ≡ growthTo g (taking free) n h .taken
-    → v ≡ g .words * levelTop (taking free) (n .root / g .words) (h - n .root % g .words) + h
-    → onto (g .words) free b (record { below = k; levels = t; at = n .at; root = v }) ≡ performed b (concat (planEpochs (growthTo g (taking free) n h .steps)))
-unfolding onto growthTo plan
+    → v ≡ grownRoot g (taking free) n h → onto (g .words) free b (record { below = k; levels = t; at = n .at; root = v }) ≡ performed b (concat (planEpochs (growthTo g (taking free) n h .steps)))
+unfolding onto growthTo plan step planEpochs concat
 onto-grown g b free n h ek et ev =
     let W : ℕ = g .words in
+    let k : ℕ = n .root / W in
     let d : ℕ = h - n .root % W in
-    rw (ek, et, ev, levels-all W (taking free) (n .root / W) d) (ap (performed b) (sym (step-stores (stored W (taking free) (levels W (taking free) (n .root / W) d) 0) (n .at) (W * levelTop (taking free) (n .root / W) d + h))))
+    rw (ek, et, ev, levels-all W (taking free) k d) (ap (performed b) (sym (steps-stores (step (stored W (taking free) (levels W (taking free) k d) 0) (n .at) (grownRoot g (taking free) n h)) [])))
 
 -- ---- Growth
 
@@ -138,7 +134,7 @@ growth-count g {r = r} fresh n h low w =
     let ps : List Page = levels W fresh (n .root / W) d in
     let taken : r .taken ≡ length ps = w .taken in
     let blocks = length-stored W fresh ps 0 in
-    let all = one-step-length (stored W fresh ps 0) (n .at) (W * levelTop fresh (n .root / W) d + h) (length ps) in
+    let all = one-step-length (stored W fresh ps 0) (n .at) (grownRoot g fresh n h) (length ps) in
     record { stores = rw taken (omega (arith, w .count, all .0)); most = rw taken (omega (arith, w .count, all .1)); few = omega (arith, taken, levels-most W fresh (n .root / W) d) }
 
 growth-some : (g : Layout) (fresh : ℕ → ℕ) (n : Inode) (h : ℕ) → 0 < length (growthTo g fresh n h .steps)
@@ -147,7 +143,7 @@ growth-some g fresh n h = omega arith
 
 -- ---- What follows it
 
-module _ {kind : Kind} {bits : ℕ} {pages b : List ℕ} {n : Inode} {o : ℕ} {new table : List ℕ} (room : Pages kind bits pages) (g : Growable kind b n o new table) where
+module _ {kind : Kind} {bits : ℕ} {pages : List ℕ} {n : Inode} {o : ℕ} {new table : List ℕ} (room : Pages kind bits pages) (g : Growable kind n o new table) where
   abbrev e : ℕ
   e = o + length new
 
@@ -158,9 +154,8 @@ module _ {kind : Kind} {bits : ℕ} {pages b : List ℕ} {n : Inode} {o : ℕ} {
   module _ (t : growing G n e ≡ false) {grown : Grown} (none : NotGrown grown) where
     pub still-ready : Ready kind bits n o new table pages grown 0 0
     still-ready = record {
-      wide = room .wide;
+      pages = room;
       pointers = record { width = room .wide .width; blocks = g .blocks; below = rw (none .null) (omega arith) };
-      room = room .room;
       some = g .some;
       end = g .end;
       address = g .address;
@@ -169,10 +164,10 @@ module _ {kind : Kind} {bits : ℕ} {pages b : List ℕ} {n : Inode} {o : ℕ} {
       place = omega arith;
     }
 
-    pub still-laid : {slice slice′ : List ℕ} {r : Count} → PlanLaid slice (0 + 2 ^ bits * 0) (chosenWay G (taking table) (onto (2 ^ bits) table b grown) n o new 0) slice′ r
+    pub still-laid : (b : List ℕ) {slice slice′ : List ℕ} {r : Count} → length b < 2 ^ 64 → PlanLaid slice (0 + 2 ^ bits * 0) (chosenWay G (taking table) (onto (2 ^ bits) table b grown) n o new 0) slice′ r
         → PlanLaid slice 0 (grownPlan G (taking table) b n o new) slice′ r
     unfolding performed plan planEpochs concat growth grownInode grownPlan afterwards
-    still-laid w = rw t (rw (onto-none (2 ^ bits) table b grown none (g .words), mul-zero (2 ^ bits)) at w)
+    still-laid b small w = rw t (rw (onto-none (2 ^ bits) table b grown none small, mul-zero (2 ^ bits)) at w)
 
   -- where there is
   module _ (t : growing G n e ≡ true) {h : ℕ} (high : h ≡ least (G .words) (G .height) e) where
@@ -186,24 +181,30 @@ module _ {kind : Kind} {bits : ℕ} {pages b : List ℕ} {n : Inode} {o : ℕ} {
     low : h ≤ 3
     low = low-height kind h (reached .1)
 
-    -- what growth asks
-    pub may-grow : Blocks table × (n .root % G .words ≤ h) × (h < 8)
-    may-grow = (g .blocks, reached .0, omega (arith, low))
+    -- what `grow` asks, and `grown_root`
+    pub may-grow : Bits kind bits × Blocks table × (n .root % G .words ≤ h) × (h < 8)
+    may-grow = (room .wide, g .blocks, reached .0, omega (arith, low))
+
+    pub may-hook : Width bits × Blocks table × (n .root % 2 ^ bits ≤ h) × (h < 8)
+    may-hook = (room .wide .width, g .blocks, rw (← room .wide .is) (reached .0), omega (arith, low))
 
     pub counted : {slice slice′ : List ℕ} {count : Count} → PlanLaid slice 0 (growthTo G (taking table) n h) slice′ count → GrowthCount (2 ^ bits) count
     counted w = rw (room .wide .is) at (growth-count G (taking table) n h low w)
 
     -- the root word and its tree's height
-    module _ {v k : ℕ} (ev : v ≡ G .words * levelTop (taking table) (n .root / G .words) (h - n .root % G .words) + h) (ek : k ≡ n .root / G .words) where
+    module _ {v k : ℕ} (ev : v ≡ 2 ^ bits * levelTop (taking table) (n .root / 2 ^ bits) (h - n .root % 2 ^ bits) + h) (ek : k ≡ n .root / 2 ^ bits) where
+      root-is : v ≡ grownRoot G (taking table) n h
+      root-is = rw (room .wide .is) ev
+
       height-is : v % G .words ≡ h
-      height-is = rw ev (mul-add-mod-self-left (G .words) (levelTop (taking table) (n .root / G .words) (h - n .root % G .words)) h ∙ mod-eq-of-lt (omega (arith, reached .1, fits kind .heights-fit)))
+      height-is = rw root-is (mul-add-mod-self-left (G .words) (levelTop (taking table) (n .root / G .words) (h - n .root % G .words)) h ∙ mod-eq-of-lt (omega (arith, reached .1, fits kind .heights-fit)))
 
       abbrev grownNode : Inode
       grownNode = record { pointer = n .pointer; at = n .at; root = v; size = n .size }
 
       node-is : grownNode ≡ grownInode G (taking table) n e
       unfolding grownInode
-      node-is = rw (ev, high, t)
+      node-is = rw (root-is, high, t)
 
       module _ (small : n .root < 2 ^ 64) {slice slice₁ : List ℕ} {count : Count} (w : PlanLaid slice 0 (growthTo G (taking table) n h) slice₁ count) where
         abbrev after : Grown
@@ -212,9 +213,8 @@ module _ {kind : Kind} {bits : ℕ} {pages b : List ℕ} {n : Inode} {o : ℕ} {
         pub grown-ready : {base : ℕ} → base + 2 ^ bits * count .taken ≤ 2 ^ 16 → Ready kind bits grownNode o new table pages after base (count .taken)
         unfolding greatest
         grown-ready place = record {
-          wide = room .wide;
-          pointers = record { width = room .wide .width; blocks = g .blocks; below = rw (← room .wide .is, ek) (omega (arith, div-mul-le-self (n .root) (G .words), mul-comm (G .words) (n .root / G .words))) };
-          room = room .room;
+          pages = room;
+          pointers = record { width = room .wide .width; blocks = g .blocks; below = rw ek (omega (arith, div-mul-le-self (n .root) (2 ^ bits), mul-comm (2 ^ bits) (n .root / 2 ^ bits))) };
           some = g .some;
           end = g .end;
           address = g .address;
@@ -223,12 +223,12 @@ module _ {kind : Kind} {bits : ℕ} {pages b : List ℕ} {n : Inode} {o : ℕ} {
           place = place;
         }
 
-        pub grown-laid : {slice₂ slice₃ : List ℕ} {r : Count} (base : ℕ) → slice₂ ≡ laid slice₁ (count .pairs) (barrier ∷ []) → base + 2 ^ bits * count .taken ≡ count .pairs + 1
+        pub grown-laid : (b : List ℕ) {slice₂ slice₃ : List ℕ} {r : Count} (base : ℕ) → slice₂ ≡ laid slice₁ (count .pairs) (barrier ∷ []) → base + 2 ^ bits * count .taken ≡ count .pairs + 1
             → PlanLaid slice₂ (base + 2 ^ bits * count .taken) (chosenWay G (taking table) (onto (2 ^ bits) table b after) grownNode o new (count .taken)) slice₃ r
             → PlanLaid slice 0 (grownPlan G (taking table) b n o new) slice₃ r
         unfolding grownPlan
-        grown-laid base fence next second =
-            let seen = onto-grown G b table n h ek (w .taken) ev in
+        grown-laid b base fence next second =
+            let seen = onto-grown G b table n h (rw (← room .wide .is) at ek) (w .taken) root-is in
             let place : base + G .words * growthTo G (taking table) n h .taken ≡ count .pairs + 1 = rw (room .wide .is, ← w .taken) next in
             rw grows (both-laid (growth-some G (taking table) n h) (way-some G (taking table) _ (grownInode G (taking table) n e) o new _) w (w .count) fence place
             (rw (← room .wide .is, seen, node-is, w .taken) at second))

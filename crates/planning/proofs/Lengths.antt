@@ -5,10 +5,9 @@ use mathlib.Core.Bool.{cond}
 use mathlib.Core.List.{List, [], _∷_, _++_}
 use Prim.Native.Nat.{ℕ, _+_, _-_, _/_, _%_, _^_, _≤_, _<_}
 use native.Mathlib.Omega.{arith}
-use native.Mathlib.Nat.{sub-zero, mul-le-mul}
+use native.Mathlib.Nat.{sub-zero}
 use lib.ListN.{length, getD, replicate}
 use lib.Dec.{ltb}
-use lib.Pow.{pow-pos}
 use borrow.Author.Tests.{lt-ltb, le-ltb, eq-eqb, ne-eqb}
 use Rattle.model.specs.declared.Kind.{Kind}
 use Rattle.model.specs.Layout.{Layout, layoutOf}
@@ -19,15 +18,13 @@ use Rattle.model.specs.InPlace.{inPlace}
 use Rattle.model.specs.Change.{cleared, lengthPlan}
 use Rattle.model.proofs.Accepting.{facts}
 use Rattle.model.proofs.Plans.{cleared-empty, cleared-live}
-use Rattle.words.proofs.Widths as Widths
 use Rattle.kinds.specs.Figures.{Bits}
 use Rattle.kinds.proofs.Figures.{fits, files-32}
 use Rattle.plans.specs.Laying.{closing, Laid}
 use Rattle.plans.proofs.Laying as Laying
 use Rattle.growing.specs.Planned.{AddressOf}
 use Rattle.growing.proofs.OneStep.{step-plan}
-use Rattle.tails.proofs.Room.{place-most}
-use Rattle.ways.proofs.Ways.{whole-small}
+use Rattle.ways.proofs.Ways.{few-stores}
 use Rattle.planning.specs.Asked.{File}
 use Rattle.planning.proofs.Growing.{size-is}
 
@@ -62,14 +59,13 @@ module _ {g : Layout} {b : List ℕ} {f at s : ℕ} (a : AddressOf g b f at) (es
     length-from-empty z e w = Laying.same-pairs (sized (store at 0 ∷ []) d (hidden-are ∙ cleared-empty g b f n s z ∙ rw (a .is))) (Laying.more (Laying.one e) w)
 
     -- *n > s: one epoch, then the size*
-    pub length-more : {slice slice₁ slice′ : List ℕ} {r q x : ℕ} → s ≢ 0 → x ≡ getD b at 0
-        → Laid slice 0 (inPlace (g .words) b (λ h l c. 0) (x % g .words) (x / g .words) s (replicate (n - s) 0) 0 at) slice₁ q → Laid slice₁ q (closing (q - 0) (store (at + 1) n)) slice′ r
+    pub length-more : {slice slice₁ slice′ : List ℕ} {W h k r q x : ℕ} → g .words ≡ W → s ≢ 0 → x ≡ getD b at 0 → h ≡ x % W → k ≡ x / W
+        → Laid slice 0 (inPlace W b (λ h l c. 0) h k s (replicate (n - s) 0) 0 at) slice₁ q → Laid slice₁ q (closing (q - 0) (store (at + 1) n)) slice′ r
         → Laid slice 0 (pairs (lengthPlan g b f n)) slice′ r
     unfolding root
-    length-more {q = q} {x = x} z ex u w =
-        let W : ℕ = g .words in
+    length-more {W = W} {h} {k} {q = q} is z ex eh ek u w =
         let ss : List Store = cleared g b f s n in
-        let here : inPlace W b (λ h l c. 0) (x % W) (x / W) s (replicate (n - s) 0) 0 at ≡ ss = rw (ex, a .is) (sym (cleared-live g b f n s (omega arith))) in
+        let here : inPlace W b (λ h l c. 0) h k s (replicate (n - s) 0) 0 at ≡ ss = rw (eh, ek, ex, ← is, a .is) (sym (cleared-live g b f n s (omega arith))) in
         let stored = Laying.same-pairs here u in
         let count : q ≡ length ss = omega (arith, stored .next) in
         Laying.same-pairs (sized ss d hidden-are) (Laying.more (rw count at stored) (rw (sub-zero q, count) at w))
@@ -84,7 +80,9 @@ low {kind} {b} {f} file a es ex z =
     rw (ex, a .is) (facts (layoutOf kind) (fits kind) b (file .board) .low f (rw (files-32 kind) (file .file)) (omega (arith, size-is a es)))
 
 -- so the places of all pairs are words
-pub place-room : {kind : Kind} {bits : ℕ} → Bits kind bits → (h : ℕ) → h ≤ layoutOf kind .height → (b : List ℕ) (hook : ℕ → ℕ → ℕ → ℕ) (k n : ℕ) (new : List ℕ) (c a : ℕ)
+pub place-room : {kind : Kind} {bits h : ℕ} → Bits kind bits → h ≤ layoutOf kind .height → (b : List ℕ) (hook : ℕ → ℕ → ℕ → ℕ) (k n : ℕ) (new : List ℕ) (c a : ℕ)
     → 0 + length (inPlace (2 ^ bits) b hook h k n new c a) ≤ 2 ^ 32
-place-room {bits = bits} wide h l b hook k n new c a =
-    omega (arith, place-most (2 ^ bits) (pow-pos bits) b hook h k n new c a, mul-le-mul (Widths.most (wide .width)) (whole-small h wide l))
+place-room wide l b hook k n new c a = omega (arith, few-stores wide l b hook k n new c a)
+
+pub place-behind : {ss : List Store} {slice slice′ : List ℕ} {q : ℕ} → Laid slice 0 ss slice′ q → 0 + length ss ≤ 2 ^ 32 → q ≤ 2 ^ 32
+place-behind w l = rw (w .next) l

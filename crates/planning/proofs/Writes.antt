@@ -45,7 +45,8 @@ module _ {g : Layout} {b : List ℕ} {f : ℕ} {n : Inode} (i : InodeOf g b f n)
   one-word l word ew ev = rw (le-leb e (size g b f) (rw (i .is) at l), eq-eqb (o / 8) ((e - 1) / 8) word, ← ev, ew, i .is)
 
 -- the block where the walk ends is on the board
-pub block-small : {kind : Kind} {b : List ℕ} {f k : ℕ} {n : Inode} {w : WalkEnd} (o : ℕ) → File kind b f → InodeOf (layoutOf kind) b f n → w ≡ rootWalk (layoutOf kind .words) b (n .root) (n .size) o → w ≡ Block k → k < 2 ^ 54
+pub block-small : {kind : Kind} {b : List ℕ} {f k : ℕ} {n : Inode} {w : WalkEnd} (o : ℕ) → File kind b f → InodeOf (layoutOf kind) b f n
+    → w ≡ rootWalk (layoutOf kind .words) b (n .root) (n .size) o → w ≡ Block k → k < 2 ^ 54
 unfolding rootWalk fileBlocks rootBlocks
 block-small {kind} {b} {f} {k} o file i ew there =
     let g : Layout = layoutOf kind in
@@ -73,10 +74,10 @@ module _ {kind : Kind} {b : List ℕ} {f o : ℕ} {new table : List ℕ} (a : As
   G = layoutOf kind
 
   -- on an accepted board growth may come first
-  pub growable : {n : Inode} → InodeOf G b f n → Growable kind b n o new table
+  pub growable : {n : Inode} → InodeOf G b f n → Growable kind n o new table
   growable i =
       let ok = facts G (fits kind) b (a .of .board) in
-      record { some = a .some; end = a .end; blocks = a .blocks; words = ok .sizes .below; address = i .small; low = rw (i .is) (ok .low f (rw (files-32 kind) (a .of .file))) }
+      record { some = a .some; end = a .end; blocks = a .blocks; address = i .small; low = rw (i .is) (ok .low f (rw (files-32 kind) (a .of .file))) }
 
   pub as-grown : {slice slice′ : List ℕ} {r : Count} {n : Inode} → InodeOf G b f n → singleBlock G b f o (o + length new) ≡ Hole
       → PlanLaid slice 0 (grownPlan G (taking table) b n o new) slice′ r → PlanLaid slice 0 (writePlan G (taking table) b f o new) slice′ r

@@ -1,7 +1,7 @@
 -- What the functions that plan a write and a length change are asked on.
 use mathlib.Core.Path.{_≡_}
 use mathlib.Core.List.{List, _++_}
-use Prim.Native.Nat.{ℕ, _+_, _-_, _*_, _%_, _^_, _≤_, _<_}
+use Prim.Native.Nat.{ℕ, _+_, _-_, _%_, _^_, _≤_, _<_}
 use lib.ListN.{length, drop}
 use lib.Dec.{T}
 use Rattle.model.specs.declared.Inode.{Inode}
@@ -11,7 +11,6 @@ use Rattle.model.specs.Layout.{layoutOf}
 use Rattle.model.specs.Board.{greatest, free, accepted}
 use Rattle.model.specs.Calls.{lowest}
 use Rattle.surveying.specs.Survey.{spare}
-use Rattle.kinds.specs.Figures.{Bits}
 use Rattle.plans.specs.Onto.{taking, Blocks}
 
 -- the blocks that marks have free, of those below top, at the front of a table
@@ -19,23 +18,17 @@ pub record Listed (marks : List ℕ) (top : ℕ) (table : List ℕ) (r : ℕ) (t
   pub count : r ≡ length (pickFrom 1 (top - 1) (spare marks))
   pub is : table′ ≡ pickFrom 1 (top - 1) (spare marks) ++ drop r table
 
--- there is room for a page on each level of a tree; `bits` is the width
-pub record Pages (kind : Kind) (bits : ℕ) (pages : List ℕ) : Type 0 where
-  pub wide : Bits kind bits
-  pub room : 2 ^ bits * layoutOf kind .height ≤ length pages
-
 -- a file of an accepted board
 pub record File (kind : Kind) (b : List ℕ) (f : ℕ) : Type 0 where
   pub board : T (accepted (layoutOf kind) b)
   pub file : f < 32
 
 -- A write of at least one byte that ends within bounds, on any board, to the file with inode n: a live root has one of the heights, and the size stands
--- in the word after it; the board has fewer than 2^64 words; and the table of free blocks
-pub record Growable (kind : Kind) (b : List ℕ) (n : Inode) (o : ℕ) (new table : List ℕ) : Type 0 where
+-- in the word after it; and the table of free blocks
+pub record Growable (kind : Kind) (n : Inode) (o : ℕ) (new table : List ℕ) : Type 0 where
   pub some : 0 < length new
   pub end : o + length new ≤ greatest (layoutOf kind)
   pub blocks : Blocks table
-  pub words : length b < 2 ^ 64
   pub address : n .at + 1 < 2 ^ 64
   pub low : 0 < n .size → n .root % layoutOf kind .words ≤ layoutOf kind .height
 

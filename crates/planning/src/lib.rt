@@ -35,7 +35,8 @@ ghost use Rattle.kinds.specs.Figures.{Bits};
 ghost use Rattle.plans.specs.Laying.{Laid};
 ghost use Rattle.plans.specs.Onto.{taking};
 ghost use Rattle.growing.specs.Planned.{PlanLaid};
-ghost use Rattle.planning.specs.Asked.{Listed, File, Growable, Asked, Pages};
+ghost use Rattle.ways.specs.Planning.{Pages};
+ghost use Rattle.planning.specs.Asked.{Listed, File, Growable, Asked};
 
 // Lists the blocks from 1 to top - 1 that are not marked, at the front of a table. Answers how many there are.
 pub fn list_free(marks: &[u64], top: u64, table: &mut [u64]) -> u64
@@ -77,7 +78,7 @@ fn plan_grown(
     o: u64,
     new: &[u8],
 ) -> Count
-    requires { ⌜ Pages kind bits (now pages) × Growable kind (now board) inode o (now new) (now free) ⌝ }
+    requires { ⌜ Pages kind bits (now pages) × Growable kind inode o (now new) (now free) ⌝ }
     ensures { λ r. ⌜ PlanLaid (now (plan .entry)) 0 (grownPlan (layoutOf kind) (taking (now (free .entry))) (now (board .entry)) inode o (now (new .entry))) (now (plan .exit)) r ⌝ }
 {
     let e = o + new.len() as u64;

@@ -6,16 +6,15 @@ use Prim.Native.Nat.{ℕ, zero, suc, _+_, _-_, _*_, _/_, _≤_, _<_}
 use native.Mathlib.Omega.{arith}
 use native.Mathlib.Numerals.{add-one, sub-one}
 use lib.ListN.{length}
-use Rattle.model.specs.Lists.{joined, choose}
+use Rattle.model.specs.Lists.{joined, sum, choose}
 use Rattle.model.specs.Tree.{span, cell, link}
 use Rattle.model.specs.Store.{Store, store, laid}
 use Rattle.model.specs.Fresh.{Page, part, partLength, need, build}
 use Rattle.model.specs.InPlace.{tailNeed, tailBefore, tailPages, tailWords, hooked, inPlace}
 use Rattle.model.proofs.Cases.{joined-none, length-joined}
-use Rattle.model.proofs.Sums.{sum-cong, sum-next}
-use Rattle.model.proofs.Agree.{link-cell}
+use Rattle.model.proofs.Sums.{sum-cong, sum-mono, sum-next, sum-zero}
 use Rattle.model.proofs.Splice.{length-part}
-use Rattle.model.proofs.Paths.{untouched-null}
+use Rattle.model.proofs.Paths.{untouched-null, need-none}
 use Rattle.model.proofs.Built.{build-none}
 use Rattle.model.proofs.Tailed.{tailNeed-dead, length-tail}
 use Rattle.plans.specs.Laying.{Laid}
@@ -45,15 +44,44 @@ need-tree W zero n l high live = absurd (high refl)
 need-tree W (suc h) zero l high live = absurd (live refl)
 need-tree W (suc h) (suc n) l high live = rw sub-one
 
+-- under a live data block nothing is taken
+pub need-data : (W h n l : ℕ) → h ≡ 0 → n ≢ 0 → tailNeed W h n l ≡ 0
+unfolding tailNeed
+need-data W h zero l low live = absurd (live refl)
+need-data W zero (suc n) l low live = refl
+need-data W (suc h) (suc n) l low live = absurd (omega arith)
+
+-- nor where no byte is written
+pub need-empty : (W h n l : ℕ) → l ≡ 0 → tailNeed W h n l ≡ 0
+unfolding tailNeed partLength
+need-empty W zero zero l e = rw e (need-none W zero 0)
+need-empty W zero (suc n) l e = refl
+need-empty W (suc h) zero l e = rw e (need-none W (suc h) 0)
+need-empty W (suc h) (suc n) l e = sum-zero W _ (λ j u. need-empty W h (suc n - j * span W h) (partLength (span W h) j (suc n) l) (omega arith))
+
+-- ---- How many are taken under the children before j
+
+module _ (W h n l : ℕ) where
+  pub before-start : 0 ≡ tailBefore W h n l 0
+  unfolding tailBefore sum
+  before-start = refl
+
+  pub before-more : (j : ℕ) {s left own m : ℕ} → s ≡ span W h → left ≡ n - j * s → own ≡ partLength s j n l → m ≡ tailNeed W h left own → tailBefore W h n l j + m ≡ tailBefore W h n l (j + 1)
+  unfolding tailBefore sum
+  before-more j es el eo em = rw (add-one j, em, eo, el, es)
+
+  pub before-within : (j : ℕ) → j < W → tailBefore W h n l (j + 1) ≤ tailBefore W h n l W
+  unfolding tailBefore
+  before-within j less = sum-mono (λ i. tailNeed W h (n - i * span W h) (partLength (span W h) i n l)) (j + 1) W (omega arith)
+
 before-next : (W h n l j : ℕ) → j < W → tailBefore W h n l j + tailNeed W h (n - j * span W h) (partLength (span W h) j n l) ≤ tailBefore W h n l W
-unfolding tailBefore
-before-next W h n l j less = sum-next W (λ i. tailNeed W h (n - i * span W h) (partLength (span W h) i n l)) j less
+before-next W h n l j less = omega (arith, before-more W h n l j refl refl refl refl, before-within W h n l j less)
 
 -- ---- Pages
 
 module _ (W : ℕ) (b free : List ℕ) where
   -- the pages under child j of block k, of height h
-  abbrev pub kidPages : ℕ → ℕ → ℕ → List ℕ → ℕ → ℕ → List Page
+  abbrev kidPages : ℕ → ℕ → ℕ → List ℕ → ℕ → ℕ → List Page
   kidPages h k n new c j = tailPages W b (taking free) h (link W b k j / W) (n - j * span W h) (part (span W h) j n new) (c + tailBefore W h n (length new) j)
 
   -- those under the children before j, laid for the blocks taken from the c-th on
@@ -116,7 +144,7 @@ module _ {W : ℕ} (pos : 0 < W) {b free : List ℕ} {h k n : ℕ} {new : List �
 
   module _ {j taken : ℕ} {plan′ : List ℕ} (p : Paged W b free h k n new c base j plan plan′ taken) where
     -- the count tells how many lie under the children before j
-    pub pages-count : taken ≡ c + tailBefore W h n (length new) j
+    pages-count : taken ≡ c + tailBefore W h n (length new) j
     pages-count = p .took .next ∙ ap (λ (x : ℕ). c + x) (pages-lengths W b free pos h k n new c j)
 
     module _ {s : ℕ} {own : List ℕ} (es : s ≡ span W h) (ep : own ≡ part s j n new) where
@@ -140,10 +168,6 @@ module _ {W : ℕ} (pos : 0 < W) {b free : List ℕ} {h k n : ℕ} {new : List �
       pages-room less el = rw (el, ep, es, length-part (span W h) j n new) (omega (arith, pages-count, before-next W h n (length new) j less))
 
 -- ---- Stores to words that exist
-
--- where k isn't null, `link` is the block's word
-pub as-link : (W : ℕ) → 0 < W → (b : List ℕ) (k j : ℕ) {x : ℕ} → k ≢ 0 → x ≡ cell W b k j → x ≡ link W b k j
-as-link W pos b k j there e = e ∙ sym (link-cell W pos b k j (omega arith))
 
 module _ (W : ℕ) (b : List ℕ) (hook : ℕ → ℕ → ℕ → ℕ) where
   -- the stores under child j of block k, of height h
@@ -217,10 +241,6 @@ module _ (W : ℕ) (b : List ℕ) (hook : ℕ → ℕ → ℕ → ℕ) (h k n : 
     pub laid-hook : {v : ℕ} → n ≡ 0 → length new ≢ 0 → v ≡ hook h (length new) c → plan′ ≡ laid plan p (store a v ∷ [])
         → Laid plan p (inPlace W b hook h k n new c a) plan′ (p + 1)
     laid-hook dead some ev e = Laying.same-pairs (sym (hook-stores W b hook h k n new c a dead some)) (Laying.one (rw ev at e))
-
-    -- a live data block
-    pub laid-words : {p′ : ℕ} → h ≡ 0 → k ≢ 0 → n ≢ 0 → Laid plan p (wordStores W b k n (length new) new) plan′ p′ → Laid plan p (inPlace W b hook h k n new c a) plan′ p′
-    laid-words low there live = Laying.same-pairs (sym (data-stores W b hook h k n new c a low there live))
 
     -- all children
     pub laid-tree : {j p′ : ℕ} → h ≢ 0 → k ≢ 0 → n ≢ 0 → j ≡ W → Placed W b hook (h - 1) k n new c p j plan plan′ p′

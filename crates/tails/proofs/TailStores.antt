@@ -6,20 +6,15 @@ use Prim.Native.Nat.{ℕ, _+_, _*_, _≤_, _<_}
 use native.Mathlib.Omega.{arith}
 use native.Mathlib.Numerals.{add-one}
 use Rattle.model.specs.Lists.{joined, choose}
-use Rattle.model.specs.Words.{wordOf}
-use Rattle.model.specs.Tree.{cell}
 use Rattle.model.specs.Store.{Store, store, laid}
 use Rattle.model.specs.Fresh.{partLength, dataPage}
-use Rattle.model.proofs.Agree.{link-cell}
 use Rattle.model.proofs.Splice.{choose-zero, choose-pos}
 use Rattle.plans.specs.Laying.{Laid}
 use Rattle.plans.proofs.Laying as Laying
-use Rattle.building.specs.Taking.{splicedByte}
-use Rattle.building.proofs.Splicing.{data-word}
 use Rattle.tails.specs.Stores.{wordStores}
 
 -- the store to word j, if bytes of it are written
-abbrev pub wordStore : ℕ → List ℕ → ℕ → ℕ → ℕ → List ℕ → ℕ → List Store
+abbrev wordStore : ℕ → List ℕ → ℕ → ℕ → ℕ → List ℕ → ℕ → List Store
 wordStore W b k n l new j = choose (partLength 8 j n l) [] (store (W * k + j) (dataPage W b k n n new j) ∷ [])
 
 -- those to words below j, laid from place p on
@@ -40,14 +35,13 @@ module _ {W : ℕ} {b : List ℕ} {k n l : ℕ} {new plan : List ℕ} {p : ℕ} 
       most = omega (arith, g .most);
     }
 
-    pub one-more : {x v a : ℕ} {plan₂ : List ℕ} → 0 < W → m ≢ 0 → 0 < k → x ≡ cell W b k j → v ≡ wordOf 8 (splicedByte x n n new j) → plan₂ ≡ laid plan₁ q (store a v ∷ []) → a ≡ W * k + j
+    pub one-more : {v a : ℕ} {plan₂ : List ℕ} → m ≢ 0 → v ≡ dataPage W b k n n new j → plan₂ ≡ laid plan₁ q (store a v ∷ []) → a ≡ W * k + j
         → Below W b k n l new plan p (j + 1) plan₂ (q + 1)
     unfolding joined
-    one-more {x} {v} {a} {plan₂} pos some there ex ev e ea =
-        let w : v ≡ dataPage W b k n n new j = data-word W b k n n new j (ex ∙ sym (link-cell W pos b k j there)) ev in
+    one-more {v} {a} {plan₂} some ev e ea =
         let written : 0 < partLength 8 j n l = omega (arith, em) in
         record {
-          stores = rw (add-one j) (Laying.more (g .stores) (Laying.same-pairs (sym (choose-pos (partLength 8 j n l) _ _ written)) (Laying.one (rw (w, ea) at e))));
+          stores = rw (add-one j) (Laying.more (g .stores) (Laying.same-pairs (sym (choose-pos (partLength 8 j n l) _ _ written)) (Laying.one (rw (ev, ea) at e))));
           most = omega (arith, g .most);
         }
 

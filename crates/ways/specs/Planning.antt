@@ -20,12 +20,15 @@ pub record Descended (W : ℕ) (c : List ℕ) (h k n o : ℕ) (new : List ℕ) (
   pub is : (fresh : ℕ → ℕ) (t : ℕ) → descend W fresh c h k n o new t a ≡ record { at = r .at; pages = build W fresh c (r .height) (r .block) (r .left) (r .offset) new t }
   pub low : r .height ≤ h
 
--- A write of `new` at o that stays within the bounds, to the file with inode n, whose tree spans it. The size stands in the word after the root; there
--- is room for a page on each level of a tree
-pub record Ready (kind : Kind) (bits : ℕ) (n : Inode) (o : ℕ) (new free pages : List ℕ) (grown : Grown) (base taken : ℕ) : Type 0 where
+-- there is room for a page on each level of a tree; `bits` is the width
+pub record Pages (kind : Kind) (bits : ℕ) (pages : List ℕ) : Type 0 where
   pub wide : Bits kind bits
-  pub pointers : Pointers bits free grown
   pub room : 2 ^ bits * layoutOf kind .height ≤ length pages
+
+-- A write of `new` at o that stays within the bounds, to the file with inode n, whose tree spans it. The size stands in the word after the root
+pub record Ready (kind : Kind) (bits : ℕ) (n : Inode) (o : ℕ) (new free scratch : List ℕ) (grown : Grown) (base taken : ℕ) : Type 0 where
+  pub pages : Pages kind bits scratch
+  pub pointers : Pointers bits free grown
   pub some : 0 < length new
   pub end : o + length new ≤ greatest (layoutOf kind)
   pub address : n .at + 1 < 2 ^ 64

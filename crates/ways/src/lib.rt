@@ -1,6 +1,8 @@
 // The ways of planning a write from the fourth on: tail, shadow inside, shadow with length. The names of arguments are those of `building`.
 use building::build;
 use building::minus;
+use building::place;
+use building::pointer;
 use growing::Count;
 use kinds::height_in;
 use model::Inode;
@@ -19,13 +21,15 @@ use words::block_of;
 use words::low_of;
 use words::start_of;
 use words::width;
-use words::word;
 ghost use mathlib.Core.Path.{_≡_};
+ghost use mathlib.Core.Bool.{_&&_};
 ghost use mathlib.Core.List.{[], _∷_};
-ghost use Prim.Native.Nat.{_+_, _*_, _^_, _≤_, _<_};
+ghost use Prim.Native.Nat.{_+_, _*_, _/_, _%_, _^_, _≤_, _<_};
 ghost use lib.ListN.{length};
+ghost use lib.Dec.{eqb};
 ghost use Rattle.model.specs.Layout.{layoutOf};
 ghost use Rattle.model.specs.Tree.{span};
+ghost use Rattle.model.specs.InPlace.{atBlock, walkLive};
 ghost use Rattle.model.specs.Change.{emptyTail, tail, shadowInside, leafPage, shadowWithLength, chosenWay};
 ghost use Rattle.trees.specs.Trees.{Reach};
 ghost use Rattle.plans.specs.Onto.{taking, onto, Pointers};
@@ -69,10 +73,10 @@ fn fill_empty(
         new,
         c,
     );
-    let q = base + start_of(bits, taken);
-    let value = start_of(bits, word(free, taken - 1)) + h;
-    pair(plan, q, inode.at, value);
-    let from = base + start_of(bits, c);
+    let q = place(bits, base, taken);
+    let root = pointer(bits, free, taken - 1) + h;
+    pair(plan, q, inode.at, root);
+    let from = place(bits, base, c);
     let pairs = commit(plan, from, q + 1, inode.at + 1, e);
     Count {
         pairs: pairs,
@@ -103,24 +107,12 @@ fn append(
     let k = block_of(bits, root);
     let s = inode.size;
     let taken = tail_pages(bits, board, grown, free, plan, pages, base, h, k, s, new, c);
-    let p = base + start_of(bits, taken);
-    let q = in_place(
-        bits,
-        board,
-        grown,
-        free,
-        plan,
-        pages,
-        p,
-        h,
-        k,
-        s,
-        new,
-        c,
-        inode.at,
-    );
-    let from = base + start_of(bits, c);
-    let pairs = commit(plan, from, q, inode.at + 1, s + new.len() as u64);
+    let p = place(bits, base, taken);
+    let l = new.len() as u64;
+    let at = inode.at;
+    let q = in_place(bits, board, grown, free, plan, p, h, k, s, l, new, c, at);
+    let from = place(bits, base, c);
+    let pairs = commit(plan, from, q, at + 1, s + l);
     Count {
         pairs: pairs,
         taken: taken,
@@ -218,9 +210,9 @@ fn shadow_inside(
         c,
     );
     let low = low_of(bits, word_on(bits, board, grown, free, spot.at));
-    let value = start_of(bits, word(free, taken - 1)) + low;
-    let from = base + start_of(bits, c);
-    let end = base + start_of(bits, taken);
+    let value = pointer(bits, free, taken - 1) + low;
+    let from = place(bits, base, c);
+    let end = place(bits, base, taken);
     let pairs = commit(plan, from, end, spot.at, value);
     Count {
         pairs: pairs,
@@ -268,16 +260,20 @@ fn take_leaf(
     requires { ⌜ Pointers bits (now free) grown × (base + 2 ^ bits * (c + 1) ≤ 2 ^ 32) ⌝ }
     ensures { λ r. ⌜ Took (2 ^ bits) (now (free .entry)) (now (plan .entry)) base c (leafPage (2 ^ bits) (onto (2 ^ bits) (now (free .entry)) (now (board .entry)) grown) at root size ∷ []) (now (plan .exit)) r ⌝ }
 {
-    let p = base + start_of(bits, c);
+    let p = place(bits, base, c);
     if plan.len() as u64 <= p {
         return c + 1;
     }
+    let to = pointer(bits, free, c);
     let w = width(bits);
-    let to = start_of(bits, word(free, c));
     let mut j = 0;
     while j < w {
-        let value = leaf_word(bits, board, grown, free, at, root, size, j);
-        pair(plan, p + j, to + j, value);
+        pair(
+            plan,
+            p + j,
+            to + j,
+            leaf_word(bits, board, grown, free, at, root, size, j),
+        );
         j += 1;
     }
     c + 1
@@ -322,7 +318,7 @@ fn shadow_with_length(
         c,
     );
     let size = if s < e { e } else { s };
-    let root = start_of(bits, word(free, taken - 1)) + h;
+    let root = pointer(bits, free, taken - 1) + h;
     let all = take_leaf(
         bits,
         board,
@@ -335,14 +331,31 @@ fn shadow_with_length(
         size,
         taken,
     );
-    let from = base + start_of(bits, c);
-    let end = base + start_of(bits, all);
-    let value = start_of(bits, word(free, taken));
+    let from = place(bits, base, c);
+    let end = place(bits, base, all);
+    let value = pointer(bits, free, taken);
     let pairs = commit(plan, from, end, inode.pointer, value);
     Count {
         pairs: pairs,
         taken: all,
     }
+}
+
+// Whether a write at o to a file that is not empty is a tail: it begins at the size, and the last live block exists.
+fn is_tail(bits: u64, board: &[u64], grown: Grown, free: &[u64], inode: Inode, o: u64) -> bool
+    requires { ⌜ Reach bits (inode .root % 2 ^ bits) × Pointers bits (now free) grown ⌝ }
+    ensures { λ r. ⌜ r ≡ (eqb o (inode .size) && atBlock (walkLive (2 ^ bits) (onto (2 ^ bits) (now (free .entry)) (now (board .entry)) grown) (inode .root % 2 ^ bits) (inode .root / 2 ^ bits) (inode .size))) ⌝ }
+{
+    let s = inode.size;
+    if o != s {
+        return false;
+    }
+    let h = low_of(bits, inode.root);
+    let k = block_of(bits, inode.root);
+    let WalkEnd::Block(_) = walk_live(bits, board, grown, free, h, k, s) else {
+        return false;
+    };
+    true
 }
 
 // The first of ways 4 to 6 whose condition holds.
@@ -381,25 +394,7 @@ pub fn way(
             c,
         );
     }
-    if o == s {
-        let h = low_of(bits, inode.root);
-        let k = block_of(bits, inode.root);
-        let WalkEnd::Block(_) = walk_live(bits, board, grown, free, h, k, s) else {
-            return shadow_with_length(
-                kind,
-                bits,
-                board,
-                grown,
-                free,
-                plan,
-                pages,
-                base,
-                inode,
-                o,
-                new,
-                c,
-            );
-        };
+    if is_tail(bits, board, grown, free, inode, o) {
         return append(
             kind,
             bits,

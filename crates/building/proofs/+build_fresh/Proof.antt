@@ -12,12 +12,9 @@ use borrow.Rule.Slice.PartAt.{part-to-end}
 use borrow.Rule.Slice.PartMut.{same-len-mid}
 use borrow.Fn.Kinds.{In, Out}
 use borrow.Fn.PlainCycle.{Measures, is, falls, and}
-use Rattle.words.proofs.Widths as Widths
 use Rattle.words.proofs.block_of.Reads as block-of-reads
 use Rattle.words.proofs.put.Reads as put-reads
-use Rattle.words.proofs.start_of.Reads as start-of-reads
 use Rattle.words.proofs.width.Reads as width-reads
-use Rattle.words.proofs.word.Reads as word-reads
 use Rattle.trees.proofs.Reaching.{lower}
 use Rattle.trees.proofs.span.Reads as span-reads
 use Rattle.model.proofs.Paths.{fresh-pos}
@@ -30,13 +27,14 @@ use Rattle.building.proofs.Taken as Taken
 use Rattle.building.proofs.Trees as Trees
 use Rattle.building.proofs.build_fresh.Kinds as kinds
 use Rattle.building.proofs.build_fresh.Reads as build-fresh
-use Rattle.building.proofs.all_written.Reads as all-written-reads
 use Rattle.building.proofs.child_touched.Reads as child-touched-reads
 use Rattle.building.proofs.minus.Reads as minus-reads
 use Rattle.building.proofs.part.Reads as part-reads
+use Rattle.building.proofs.place.Reads as place-reads
+use Rattle.building.proofs.pointer.Reads as pointer-reads
 use Rattle.building.proofs.take.Reads as take-reads
 use Rattle.building.proofs.take_data.Reads as take-data-reads
-use Rattle.building.proofs.whole.Reads as whole-reads
+use Rattle.building.proofs.tree_need.Reads as tree-need-reads
 
 abbrev μ : Measures 5 kinds.ps ℕ
 μ κs a = a .1 .1 .1 .1 .1 .1 .1 .0
@@ -51,12 +49,10 @@ abbrev known : ℕ → lts.Claims
 known t = (
   take-data-reads.Asked,
   take-data-reads.Learnt,
-  start-of-reads.Asked,
-  start-of-reads.Learnt,
-  all-written-reads.Asked,
-  all-written-reads.Learnt,
-  whole-reads.Asked,
-  whole-reads.Learnt,
+  place-reads.Asked,
+  place-reads.Learnt,
+  tree-need-reads.Asked,
+  tree-need-reads.Learnt,
   span-reads.Asked,
   span-reads.Learnt,
   width-reads.Asked,
@@ -73,8 +69,8 @@ known t = (
   child-touched-reads.Learnt,
   below t,
   build-fresh.Post,
-  word-reads.Asked,
-  word-reads.Learnt,
+  pointer-reads.Asked,
+  pointer-reads.Learnt,
   put-reads.Asked,
   put-reads.Learnt,
   take-reads.Asked,
@@ -96,36 +92,44 @@ module _ (t : ℕ) where
   abbrev N : (lts.Claims → In 5 kinds.ps → Out 5 kinds.ps kinds.r → lts.InvT-loop → lts.MeasureT-loop → Type 0) → Type 0
   N F = F (known t) (at t) build-fresh.Post Inv-loop μ-loop
 
+  -- the contexts before the loop, before child j, and after it
+  abbrev start : N lts.After-place → N lts.Start
+  start c = c .before .before .before .before .before .before .before
+
+  abbrev placed : N lts.At-loop → N lts.After-place
+  placed c = c .before .before .before .before
+
+  abbrev found : N lts.After-child-touched → N lts.At-loop
+  found c = c .before .before .before .before .before .before .before
+
   -- the first block of the tree fits
   fits : (c : N lts.Start) → let x = c .args in x .base + 2 ^ x .bits * (x .c + 1) ≤ 2 ^ 32
   fits c = let x = c .args in
       first-fits _ (x .base) (x .c) _ (c .pre .1 .4) (fresh-pos (2 ^ x .bits) (onto (2 ^ x .bits) (x .free .now) (x .board .now) (x .grown)) (x .h) (x .k) (x .n) (x .o) (length (x .new .now)) (c .pre .1 .3))
 
   -- a page for this level, and those of the levels below it
-  room : (c : N lts.At-loop) → let a = c .before .before .before .before .before .before .before .before .before .before .before in c .before .width .result + 2 ^ a .args .bits * (a .args .h - 1) ≤ length (c .loop .pages)
-  room c = let a = c .before .before .before .before .before .before .before .before .before .before .before in
-      omega (arith, Trees.page-room (2 ^ a .args .bits) (a .args .h) (length (a .args .pages .now)) (c .before .before .before .before .before .if1 .left) (a .pre .1 .2), c .before .width .ensures .is, c .loop .inv .1)
+  room : (c : N lts.At-loop) → let s = start (placed c) in c .before .width .result + 2 ^ s .args .bits * (s .args .h - 1) ≤ length (c .loop .pages)
+  room c = let p = placed c in let s = start p in
+      omega (arith, Trees.page-room (2 ^ s .args .bits) (s .args .h) (length (s .args .pages .now)) (p .before .if1 .left) (s .pre .1 .2), c .before .width .ensures .is, c .loop .inv .1)
 
   take-data-requires : N lts.Need-take-data-requires
-  take-data-requires c κs = let a = c .before .before .before .before .before .before .before in (a .pre .1 .1, fits a)
+  take-data-requires c κs = let s = c .before .before .before .before .before .before .before in (s .pre .1 .1, fits s)
 
   returns : N lts.Need-returns
-  returns c = Trees.leaf _ (pow-pos _) _ _ _ _ _ _ _ (c .before .before .before .before .before .before .before .before .before .before .pre .1 .3) (c .before .before .before .before .if1 .taken) (c .before .before .take-data .ensures)
+  returns c = let d = c .before .before in let t = d .before .before in
+      Trees.leaf _ (pow-pos _) _ _ _ _ _ _ _ (t .before .before .before .before .before .before .pre .1 .3) (t .if1 .taken) (d .take-data .ensures)
 
-  start-of-requires : N lts.Need-start-of-requires
-  start-of-requires c κs = let a = c .before .before .before .before .before .before in (omega (arith, a .pre .1 .0 .width .high), omega (arith, fits a))
-
-  add-if2 : N lts.Need-add-if2
-  add-if2 c = omega (arith, c .start-of .ensures, fits (c .before .before .before .before .before .before .before))
+  place-requires : N lts.Need-place-requires
+  place-requires c κs = let s = c .before .before .before .before .before .before in (s .pre .1 .0 .width, omega (arith, fits s))
 
   add-result : N lts.Need-add-result
-  add-result c = let a = c .before .before .before .before .before .before .before .before .before .before .before in omega (arith, c .whole .ensures .most, a .pre .1 .0 .spans, Taken.count-small (a .args .base) (a .args .c + 1) (a .pre .1 .0 .width) (fits a))
+  add-result c = let s = start (c .before .before .before) in omega (arith, c .tree-need .ensures .most, s .pre .1 .0 .spans, Taken.count-small (s .args .base) (s .args .c + 1) (s .pre .1 .0 .width) (fits s))
 
   returns-2 : N lts.Need-returns-2
-  returns-2 c = Trees.counted (pow-pos _) _ _ _ _ _ _ (rw (c .before .before .before .before .start-of .ensures) at (c .before .before .before .if2 .taken)) (sym (c .before .if3 .taken) ∙ c .before .before .all-written .ensures) (c .whole .ensures .is)
+  returns-2 c = let o = c .before .before in Trees.counted (pow-pos _) _ _ _ _ _ _ (o .before .place .ensures) (o .if2 .taken) (c .before .if3 .taken) (c .tree-need .ensures .is)
 
   span-requires : N lts.Need-span-requires
-  span-requires c κs = lower (c .before .before .before .before .before .before .before .before .pre .1 .0)
+  span-requires c κs = lower (start (c .before) .pre .1 .0)
 
   loop-holds : N lts.Need-loop-holds
   loop-holds c = (omega arith, refl, Trees.start)
@@ -134,61 +138,85 @@ module _ (t : ℕ) where
   mul-first c = omega (arith, mul-le-mul (c .loop-test .taken) (c .before .before .before .span .ensures .high))
 
   part-requires : N lts.Need-part-requires
-  part-requires c κs = (omega (arith, c .before .before .before .before .before .span .ensures .high), omega (arith, c .before .before .before .before .width .ensures .most))
+  part-requires c κs = let w = c .before .before .before .before in (omega (arith, w .before .span .ensures .high), omega (arith, w .width .ensures .most))
 
   child-touched-requires : N lts.Need-child-touched-requires
-  child-touched-requires c κs = let a = c .before .before .before .before .before .before .before .before .before .before .before .before .before .before .before .before .before in
-      (lower (a .pre .1 .0), λ none. omega (arith, ltb-false (a .args .n) (a .args .o) none, c .before .before .before .before .minus .ensures, c .before .before .before .minus2 .ensures))
+  child-touched-requires c κs = let m = c .before .before .before in let s = start (placed (m .before .before .before)) in
+      (lower (s .pre .1 .0), λ none. omega (arith, ltb-false (s .args .n) (s .args .o) none, m .before .minus .ensures, m .minus2 .ensures))
 
   build-fresh-requires : N lts.Need-build-fresh-requires
-  build-fresh-requires c κs = let l = c .before .before .before .before .before .before .before .before .before .before in let a = c .before .before .before .before .before .before .before .before .before .before .before .before .before .before .before .before .before .before .before .before .before in
-      let fits = Trees.child-fits (a .pre .1 .3) (c .before .before .before .before .before .before .before .before .before .before .before .before .before .before .before .if1 .left) (l .loop .inv .2) (a .pre .1 .4) (omega (arith, c .before .before .before .before .before .before .before .before .before .loop-test .taken, l .before .width .ensures .is))
-      (c .before .before .before .before .before .before .before .before .before .before .before .before .span .ensures .is) (c .before .before .before .before .before .before .part .ensures) (c .before .before .before .before .before .link-on .ensures) (c .before .before .before .before .before .before .before .before .minus .ensures) (c .before .before .before .before .before .before .before .minus2 .ensures) (c .before .before .before .before .block-of .ensures) in (
-        omega (arith, a .pre .0, c .before .before .before .before .before .before .before .before .before .before .before .before .before .before .before .if1 .left),
+  build-fresh-requires c κs =
+      let t = c .before .before .before in
+      let down = t .before in
+      let old = down .before in
+      let own = old .before in
+      let at = own .before in
+      let left = at .before in
+      let l = found t in
+      let p = placed l in
+      let s = start p in
+      let fits = Trees.child-fits (s .pre .1 .3) (p .before .if1 .left) (l .loop .inv .2) (s .pre .1 .4) (omega (arith, left .before .loop-test .taken, l .before .width .ensures .is))
+      (l .before .before .span .ensures .is) (own .part .ensures) (old .link-on .ensures) (left .minus .ensures) (at .minus2 .ensures) (down .block-of .ensures) in (
+        omega (arith, s .pre .0, p .before .if1 .left),
         (
-          lower (a .pre .1 .0),
-          a .pre .1 .1,
+          lower (s .pre .1 .0),
+          s .pre .1 .1,
           rw (part-to-end (l .loop .pages) (l .before .width .result), length-drop) (omega (arith, room l)),
-          sym (c .before .before .before .child-touched .ensures) ∙ c .before .before .if4 .taken,
+          sym (t .child-touched .ensures) ∙ c .before .before .if4 .taken,
           fits,
         ),
       )
 
-  sub-word : N lts.Need-sub-word
-  sub-word c = Trees.taken-some (pow-pos _) _ _ _ _ _ _ (sym (c .before .before .before .before .before .before .before .before .child-touched .ensures) ∙ c .before .before .before .before .before .before .before .if4 .taken) (c .before .before .before .before .build-fresh .ensures)
+  sub-pointer : N lts.Need-sub-pointer
+  sub-pointer c = let b = c .before .before .before .before in let t = b .before .before .before in
+      Trees.taken-some (pow-pos _) _ _ _ _ _ _ (sym (t .before .child-touched .ensures) ∙ t .if4 .taken) (b .build-fresh .ensures)
 
-  start-of-requires-2 : N lts.Need-start-of-requires-2
-  start-of-requires-2 c κs = let a = c .before .before .before .before .before .before .before .before .before .before .before .before .before .before .before .before .before .before .before .before .before .before .before .before .before .before .before in (omega (arith, a .pre .1 .0 .width .high), omega (arith, Widths.address (a .pre .1 .0 .width) (Taken.block-small _ (a .pre .1 .1 .blocks) (c .word .ensures))))
+  pointer-requires : N lts.Need-pointer-requires
+  pointer-requires c κs = let s = start (placed (found (c .before .before .before .before .before .before .before .before))) in (s .pre .1 .0 .width, s .pre .1 .1 .blocks)
 
   loop-again : N lts.Need-loop-again
-  loop-again c = let j = c .before .before .before .before in let l = c .before .before .before .before .before .before .before .before .before .before .before .before in let less = c .before .before .before .before .before .before .before .before .before .before .before .loop-test .taken in let r = room l in
-      let is = c .before .before .before .before .before .before .before .before .before .before .before .before .before .before .span .ensures .is in let own = c .before .before .before .before .before .before .before .before .part .ensures in let old = c .before .before .before .before .before .before .before .link-on .ensures in
-      let left = c .before .before .before .before .before .before .before .before .before .before .minus .ensures in let at = c .before .before .before .before .before .before .before .before .before .minus2 .ensures in let down = c .before .before .before .before .before .before .block-of .ensures in
-      let test = sym (c .before .before .before .before .before .child-touched .ensures) in let put = c .before .before .put .ensures in
-      let wide = l .before .width .result in let pages = l .loop .pages in let rest = length pages - wide in let fit : l .loop .j < length pages = omega (arith, room l) in let same = Trees.untouched fit in
+  loop-again c =
+      let j = c .before .before .before .before in
+      let t = j .before in
+      let down = t .before in
+      let old = down .before in
+      let own = old .before in
+      let at = own .before in
+      let left = at .before in
+      let l = found t in
+      let is = l .before .before .span .ensures .is in
+      let test = sym (t .child-touched .ensures) in
+      let put = c .before .before .put .ensures in
+      let wide = l .before .width .result in
+      let pages = l .loop .pages in
+      let rest = length pages - wide in
+      let less = left .before .loop-test .taken in
+      let r = room l in
+      let fit : l .loop .j < length pages = omega (arith, room l) in
+      let same = Trees.untouched fit in
       ⊎-elim
       (λ w. let mine = w .3 .last .1 .1 .1 .1 .1 .0 in let kept = Trees.lent rest pages mine less (omega arith) in
-      rw (w .10, w .12) (
+      rw (w .9, w .11) (
         omega arith,
-        ap length put ∙ simp length-set (rw (w .11) (same-len-mid wide rest pages mine (w .3 .kept .1 .1 .1 .1 .1 .0)) ∙ l .loop .inv .1),
-        Trees.fresh-child (l .loop .inv .2) is own old left at down kept (test ∙ w .0 .taken) (w .3 .ensures) (w .8 .ensures) (w .9 .ensures) (put ∙ rw (w .11, w .13)),
+        ap length put ∙ simp length-set (rw (w .10) (same-len-mid wide rest pages mine (w .3 .kept .1 .1 .1 .1 .1 .0)) ∙ l .loop .inv .1),
+        Trees.fresh-child (l .loop .inv .2) is (own .part .ensures) (old .link-on .ensures) (left .minus .ensures) (at .minus2 .ensures) (down .block-of .ensures) kept (test ∙ w .0 .taken) (w .3 .ensures) (w .8 .ensures .is) (put ∙ rw (w .10, w .12)),
       ))
       (⊎-elim
       (λ w. rw (w .2, w .4) (
         omega arith,
         ap length put ∙ simp length-set (rw (w .3) (l .loop .inv .1)),
-        Trees.old-child (l .loop .inv .2) is own old left at down (test ∙ w .0 .left) same (w .1 .taken) (put ∙ rw (w .3, w .5)),
+        Trees.old-child (l .loop .inv .2) is (own .part .ensures) (old .link-on .ensures) (left .minus .ensures) (at .minus2 .ensures) (down .block-of .ensures) (test ∙ w .0 .left) same (w .1 .taken) (put ∙ rw (w .3, w .5)),
       ))
       (λ w. rw (w .2, w .4) (
         omega arith,
         ap length put ∙ simp length-set (rw (w .3) (l .loop .inv .1)),
-        Trees.dead-child (l .loop .inv .2) is own old left at down (test ∙ w .0 .left) same (w .1 .left) (put ∙ rw (w .3, w .5)),
+        Trees.dead-child (l .loop .inv .2) is (own .part .ensures) (old .link-on .ensures) (left .minus .ensures) (at .minus2 .ensures) (down .block-of .ensures) (test ∙ w .0 .left) same (w .1 .left) (put ∙ rw (w .3, w .5)),
       )))
       (j .if4 .came)
 
   take-requires : N lts.Need-take-requires
-  take-requires c κs = let l = c .before .before .before in let a = c .before .before .before .before .before .before .before .before .before .before .before .before .before .before in
-      (a .pre .1 .0 .width, a .pre .1 .1 .blocks, Trees.node-fits (a .pre .1 .3) (c .before .before .before .before .before .before .before .before .if1 .left) (l .loop .inv .2) (a .pre .1 .4) (omega (arith, l .before .width .ensures .is)) (omega (arith, l .before .width .ensures .is)))
+  take-requires c κs = let l = c .before .before .before in let p = placed l in let s = start p in
+      (s .pre .1 .0 .width, s .pre .1 .1 .blocks, Trees.node-fits (s .pre .1 .3) (p .before .if1 .left) (l .loop .inv .2) (s .pre .1 .4) (omega (arith, l .before .width .ensures .is)) (omega (arith, l .before .width .ensures .is)))
 
   same-length-2 : N lts.Need-same-length-2
   same-length-2 c = c .before .before .take .kept .1 .1 .0 ∙ Taken.same-length (c .before .before .before .before .before .before .loop .inv .2 .took)
@@ -197,17 +225,15 @@ module _ (t : ℕ) where
   same-length-3 c = c .before .before .before .before .before .before .loop .inv .1
 
   returns-3 : N lts.Need-returns-3
-  returns-3 c = let l = c .before .before .before .before .before .before in
-      Trees.node (c .before .before .before .before .before .before .before .before .before .before .before .before .before .before .before .before .before .pre .1 .3) (c .before .before .before .before .before .before .before .before .before .before .before .if1 .left) (l .loop .inv .2) (omega (arith, l .before .width .ensures .is)) (omega (arith, l .before .width .ensures .is)) (c .before .before .take .ensures)
+  returns-3 c = let l = c .before .before .before .before .before .before in let p = placed l in
+      Trees.node (start p .pre .1 .3) (p .before .if1 .left) (l .loop .inv .2) (omega (arith, l .before .width .ensures .is)) (omega (arith, l .before .width .ensures .is)) (c .before .before .take .ensures)
 
 pub +build-fresh-spec : {M : Type 1} → statement M
 +build-fresh-spec = close μ λ t. lts.spec (known t) (at t) build-fresh.Post Inv-loop μ-loop
     (take-data-requires t)
     (λ c. search needs)
     (returns t)
-    (start-of-requires t)
-    (add-if2 t)
-    (λ c κs. search needs)
+    (place-requires t)
     (λ c κs. search needs)
     (add-result t)
     (returns-2 t)
@@ -222,14 +248,13 @@ pub +build-fresh-spec : {M : Type 1} → statement M
     (λ c κs. search needs)
     (λ c κs. search needs)
     (child-touched-requires t)
-    (λ c. omega (arith, room t (c .before .before .before .before .before .before .before .before .before)))
-    (λ c. omega (arith, room t (c .before .before .before .before .before .before .before .before .before)))
-    (λ c. omega (arith, room t (c .before .before .before .before .before .before .before .before .before)))
+    (λ c. omega (arith, room t (found t (c .before .before))))
+    (λ c. omega (arith, room t (found t (c .before .before))))
+    (λ c. omega (arith, room t (found t (c .before .before))))
     (λ c. search needs)
     (build-fresh-requires t)
-    (sub-word t)
-    (λ c κs. search needs)
-    (start-of-requires-2 t)
+    (sub-pointer t)
+    (pointer-requires t)
     (λ c κs. search needs)
     (λ c. omega arith)
     (λ c. omega arith)

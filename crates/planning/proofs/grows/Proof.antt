@@ -3,6 +3,7 @@ use native.Mathlib.Omega.{arith}
 use borrow.Author.Needs.{needs}
 use Rattle.model.specs.Layout.{layoutOf}
 use Rattle.kinds.proofs.Figures.{reach}
+use Rattle.ways.proofs.Ways.{height-low}
 use Rattle.planning.proofs.Growing as Growing
 use Rattle.planning.proofs.grows.Statement.{statement}
 use Rattle.planning.proofs.grows.Tie as tie
@@ -12,11 +13,11 @@ returns c = let a = c .before .before .args in Growing.empty-stays (layoutOf (a 
 
 span-requires : tie.Need-span-requires
 span-requires c κs = let s = c .before .before .before in let live : 0 < s .args .inode .size = omega (arith, c .before .if1 .left) in
-    reach (s .args .kind) (s .pre .0) (rw (c .low-of .ensures, ← s .pre .0 .is) (s .pre .1 live))
+    reach (s .args .kind) (s .pre .0) (height-low (s .args .inode .root) (s .pre .0) (s .pre .1 live) (c .low-of .ensures))
 
 returns-2 : tie.Need-returns-2
-returns-2 c = let s = c .before .before .before .before in let a = s .args in
-    Growing.spans-less (layoutOf (a .kind)) (a .inode) (a .e) (s .pre .0 .is) (c .before .before .if1 .left) (c .before .low-of .ensures) (c .span .ensures)
+returns-2 c = let h = c .before in let s = h .before .before .before in let a = s .args in
+    Growing.spans-less (layoutOf (a .kind)) (a .inode) (a .e) (s .pre .0 .is) (h .before .if1 .left) (h .low-of .ensures) (c .span .ensures)
 
 pub grows-spec : {M : Type 1} → statement M
 grows-spec = tie.close (tie.spec returns (λ c κs. search needs) span-requires returns-2)

@@ -1,14 +1,16 @@
--- The measure is the height; the loop has laid the stores under the children below j, and counted the blocks taken for their pages.
+-- The measure is the height; the loop has laid the stores under the children before j, and counted the blocks taken there.
 use mathlib.Core.Path.{_≡_, refl, sym, ap, _∙_}
 use mathlib.Core.Logic.{⊎-elim}
+use mathlib.Core.List.{List}
 use Prim.Native.Nat.{ℕ, _+_, _-_, _*_, _^_, _≤_, _<_}
+use native.Mathlib.Nat.{mul-le-mul}
 use native.Mathlib.Omega.{arith}
-use native.Mathlib.Nat.{mul-le-mul, mul-le-mul-left}
 use lib.ListN.{length}
-use lib.Pow.{pow-pos}
 use borrow.Author.Needs.{needs}
 use borrow.Fn.Kinds.{In, Out}
 use borrow.Fn.PlainCycle.{Measures, is, falls, and}
+use Rattle.model.specs.Fresh.{partLength}
+use Rattle.model.specs.InPlace.{tailNeed, tailBefore, inPlace}
 use Rattle.words.proofs.Widths as Widths
 use Rattle.words.proofs.block_of.Reads as block-of-reads
 use Rattle.words.proofs.start_of.Reads as start-of-reads
@@ -19,28 +21,29 @@ use Rattle.plans.specs.Onto.{onto}
 use Rattle.plans.proofs.Laying as Laying
 use Rattle.plans.proofs.cell_on.Reads as cell-on-reads
 use Rattle.plans.proofs.pair.Reads as pair-reads
-use Rattle.building.proofs.Taken as Taken
 use Rattle.building.proofs.minus.Reads as minus-reads
 use Rattle.building.proofs.part.Reads as part-reads
-use Rattle.tails.specs.Stores.{hooks}
-use Rattle.tails.proofs.+in_place.{statement}
-use Rattle.tails.proofs.+in_place.Lts-in_place as lts
-use Rattle.tails.proofs.+in_place.Tie.{close}
+use Rattle.building.proofs.part_length.Reads as part-length-reads
+use Rattle.tails.specs.Stores.{hooks, wordStores, padded}
 use Rattle.tails.proofs.Children as Children
+use Rattle.tails.proofs.Padding as Padding
 use Rattle.tails.proofs.hook.Reads as hook-reads
-use Rattle.tails.proofs.in_place.Kinds as kinds
-use Rattle.tails.proofs.in_place.Reads as in-place
-use Rattle.tails.proofs.tail_pages.Reads as tail-pages-reads
+use Rattle.tails.proofs.tail_need.Reads as tail-need-reads
 use Rattle.tails.proofs.tail_words.Reads as tail-words-reads
+use Rattle.tails.proofs.in_place.Reads as in-place
+use Rattle.tails.proofs.in_place.Kinds as kinds
+use Rattle.tails.proofs.+in_place.Lts-in_place as lts
+use Rattle.tails.proofs.+in_place.{statement}
+use Rattle.tails.proofs.+in_place.Tie.{close}
 
-abbrev μ : Measures 5 kinds.ps ℕ
-μ κs a = a .1 .1 .1 .1 .1 .1 .1 .0
+abbrev μ : Measures 4 kinds.ps ℕ
+μ κs a = a .1 .1 .1 .1 .1 .1 .0
 
-abbrev at : ℕ → In 5 kinds.ps
-at t = and 5 kinds.ps (is 5 kinds.ps μ t) in-place.Pre
+abbrev at : ℕ → In 4 kinds.ps
+at t = and 4 kinds.ps (is 4 kinds.ps μ t) in-place.Pre
 
-abbrev below : ℕ → In 5 kinds.ps
-below t = and 5 kinds.ps (falls 5 kinds.ps _<_ μ t) in-place.Pre
+abbrev below : ℕ → In 4 kinds.ps
+below t = and 4 kinds.ps (falls 4 kinds.ps _<_ μ t) in-place.Pre
 
 abbrev known : ℕ → lts.Claims
 known t = (
@@ -56,6 +59,8 @@ known t = (
   width-reads.Learnt,
   start-of-reads.Asked,
   start-of-reads.Learnt,
+  part-length-reads.Asked,
+  part-length-reads.Learnt,
   part-reads.Asked,
   part-reads.Learnt,
   cell-on-reads.Asked,
@@ -66,137 +71,178 @@ known t = (
   minus-reads.Learnt,
   below t,
   in-place.Post,
-  tail-pages-reads.Asked,
-  tail-pages-reads.Learnt,
+  tail-need-reads.Asked,
+  tail-need-reads.Learnt,
 )
 
 abbrev Inv-loop : lts.InvT-loop
-Inv-loop bits board grown free plan₀ pages₀ p h k n new c a s w to none₀ taken₀ q₀ j₀ plan pages none taken q j =
-    (j ≤ w) × (length pages ≡ length pages₀) × Children.Paged (2 ^ bits) (onto (2 ^ bits) free board grown) free (h - 1) k n new c 0 j none₀ none taken
-    × Children.Placed (2 ^ bits) (onto (2 ^ bits) free board grown) (hooks (2 ^ bits) free) (h - 1) k n new c p j plan₀ plan q
+Inv-loop bits board grown free plan₀ p h k n l new c a s w to taken₀ q₀ j₀ plan taken q j =
+    (j ≤ w) × (taken ≡ c + tailBefore (2 ^ bits) (h - 1) n l j) × Children.Placed (2 ^ bits) (onto (2 ^ bits) free board grown) (hooks (2 ^ bits) free) (h - 1) k n (padded l new) c p j plan₀ plan q
 
 abbrev μ-loop : lts.MeasureT-loop
-μ-loop bits board grown free plan₀ pages₀ p h k n new c a s w to none₀ taken₀ q₀ j₀ plan pages none taken q j = w - j
+μ-loop bits board grown free plan₀ p h k n l new c a s w to taken₀ q₀ j₀ plan taken q j = w - j
 
 module _ (t : ℕ) where
-  abbrev N : (lts.Claims → In 5 kinds.ps → Out 5 kinds.ps kinds.r → lts.InvT-loop → lts.MeasureT-loop → Type 0) → Type 0
+  abbrev N : (lts.Claims → In 4 kinds.ps → Out 4 kinds.ps kinds.r → lts.InvT-loop → lts.MeasureT-loop → Type 0) → Type 0
   N F = F (known t) (at t) in-place.Post Inv-loop μ-loop
 
+  -- the contexts before the height is tested, before the loop, and before child j
+  abbrev start : N lts.Else3 → N lts.Start
+  start c = c .before .before .before .before .before .before
+
+  abbrev tall : N lts.At-loop → N lts.Else4
+  tall c = c .before .before .before .before
+
+  abbrev found : N lts.After-part-length → N lts.At-loop
+  found c = c .before .before
+
+  -- the board that is read, and what is written
+  abbrev seen : N lts.Start → List ℕ
+  seen s = onto (2 ^ s .args .bits) (s .args .free .now) (s .args .board .now) (s .args .grown)
+
+  abbrev bytes : N lts.Start → List ℕ
+  bytes s = padded (s .args .l) (s .args .new .now)
+
+  long : (s : N lts.Start) → length (bytes s) ≡ s .args .l
+  long s = Padding.length-padded (s .args .new .now) (s .pre .1 .3)
+
   returns : N lts.Need-returns
-  returns c = let a = c .before .before .before .before .before .before .before .args in
-      Children.laid-empty (2 ^ a .bits) (onto (2 ^ a .bits) (a .free .now) (a .board .now) (a .grown)) (hooks (2 ^ a .bits) (a .free .now)) (a .h) (a .k) (a .n) (a .new .now) (a .c) (a .a) (c .if2 .taken)
+  returns c = let s = c .before .before .before .before .before .before in let a = s .args in
+      Children.laid-empty (2 ^ a .bits) (seen s) (hooks (2 ^ a .bits) (a .free .now)) (a .h) (a .k) (a .n) (bytes s) (a .c) (a .a) (long s ∙ c .if2 .taken)
 
   hook-requires : N lts.Need-hook-requires
-  hook-requires c κs = let s = c .before .before .before .before .before .before .before .before .before in let a = s .args in
-      (s .pre .1 .0, s .pre .1 .2, s .pre .1 .3, omega (arith, c .before .before .if2 .left), rw (← Children.need-dead (2 ^ a .bits) (a .h) (a .n) (length (a .new .now)) (c .before .before .before .if1 .taken)) (s .pre .1 .4))
+  hook-requires c κs = let s = c .before .before .before .before .before .before .before in (s .pre .1 .0, s .pre .1 .2 .blocks, omega (arith, c .before .if2 .left), omega (arith, s .pre .1 .4))
 
   returns-2 : N lts.Need-returns-2
-  returns-2 c = let u = c .before .before .before .before .before .before .before .before in let a = u .before .before .before .before .before .before .before .args in
-      Children.laid-hook (2 ^ a .bits) (onto (2 ^ a .bits) (a .free .now) (a .board .now) (a .grown)) (hooks (2 ^ a .bits) (a .free .now)) (a .h) (a .k) (a .n) (a .new .now) (a .c) (a .a)
-      (u .before .if1 .taken) (u .if2 .left) (c .before .before .before .before .before .hook .ensures) (c .before .before .pair .ensures)
+  returns-2 c = let k = c .before .before .before in let e = k .before .before in let s = e .before .before .before .before .before .before in let a = s .args in
+      Children.laid-hook (2 ^ a .bits) (seen s) (hooks (2 ^ a .bits) (a .free .now)) (a .h) (a .k) (a .n) (bytes s) (a .c) (a .a) (e .before .if1 .taken) (λ none. e .if2 .left (sym (long s) ∙ none))
+      (k .hook .ensures ∙ ap (λ (l : ℕ). hooks (2 ^ a .bits) (a .free .now) (a .h) l (a .c)) (sym (long s))) (c .before .before .pair .ensures)
 
   returns-3 : N lts.Need-returns-3
-  returns-3 c = let a = c .before .before .before .before .before .before .before .args in
-      Children.laid-null (2 ^ a .bits) (onto (2 ^ a .bits) (a .free .now) (a .board .now) (a .grown)) (hooks (2 ^ a .bits) (a .free .now)) (a .h) (a .k) (a .n) (a .new .now) (a .c) (a .a) (c .if3 .taken) (c .before .if1 .left)
+  returns-3 c = let s = c .before .before .before .before .before .before in let a = s .args in
+      Children.laid-null (2 ^ a .bits) (seen s) (hooks (2 ^ a .bits) (a .free .now)) (a .h) (a .k) (a .n) (bytes s) (a .c) (a .a) (c .if3 .taken) (c .before .if1 .left)
+
+  -- the words of a live data block
+  words : (c : N lts.Then4) → let s = start (c .before) in let a = s .args in wordStores (2 ^ a .bits) (seen s) (a .k) (a .n) (a .l) (a .new .now)
+      ≡ inPlace (2 ^ a .bits) (seen s) (hooks (2 ^ a .bits) (a .free .now)) (a .h) (a .k) (a .n) (bytes s) (a .c) (a .a)
+  words c = let s = start (c .before) in let a = s .args in
+      Padding.data-padded (2 ^ a .bits) (seen s) (hooks (2 ^ a .bits) (a .free .now)) (a .h) (a .k) (a .n) (a .l) (a .new .now) (a .c) (a .a) (s .pre .1 .3) (c .if4 .taken) (c .before .if3 .left) (c .before .before .if1 .left)
 
   tail-words-requires : N lts.Need-tail-words-requires
-  tail-words-requires c κs = let u = c .before in let s = u .before .before .before .before .before .before .before .before in let a = s .args in
-      let words = Children.data-stores (2 ^ a .bits) (onto (2 ^ a .bits) (a .free .now) (a .board .now) (a .grown)) (hooks (2 ^ a .bits) (a .free .now)) (a .h) (a .k) (a .n) (a .new .now) (a .c) (a .a)
-      (u .if4 .taken) (u .before .if3 .left) (u .before .before .if1 .left) in
-      (s .pre .1 .2, s .pre .1 .1, omega (arith, u .before .if3 .left), omega (arith, s .pre .1 .5, ap length words))
+  tail-words-requires c κs = let u = c .before in let s = start (u .before) in (s .pre .1 .2, s .pre .1 .1, omega (arith, s .pre .1 .5, ap length (words u)))
 
   returns-4 : N lts.Need-returns-4
-  returns-4 c = let u = c .before .before .before .before in let a = u .before .before .before .before .before .before .before .before .args in
-      Children.laid-words (2 ^ a .bits) (onto (2 ^ a .bits) (a .free .now) (a .board .now) (a .grown)) (hooks (2 ^ a .bits) (a .free .now)) (a .h) (a .k) (a .n) (a .new .now) (a .c) (a .a)
-      (u .if4 .taken) (u .before .if3 .left) (u .before .before .if1 .left) (c .before .before .tail-words .ensures)
+  returns-4 c = let w = c .before .before in Laying.same-pairs (words (w .before .before)) (w .tail-words .ensures)
 
   span-requires : N lts.Need-span-requires
-  span-requires c κs = lower (c .before .before .before .before .before .before .before .before .pre .1 .0)
+  span-requires c κs = lower (start (c .before) .pre .1 .0)
 
   start-of-requires : N lts.Need-start-of-requires
-  start-of-requires c κs = let s = c .before .before .before .before .before .before .before .before .before .before in (search needs, omega (arith, s .pre .1 .1, Widths.least (s .pre .1 .0 .width)))
+  start-of-requires c κs = let s = start (c .before .before .before) in (search needs, omega (arith, s .pre .1 .1, Widths.least (s .pre .1 .0 .width)))
 
   loop-holds : N lts.Need-loop-holds
-  loop-holds c = (omega arith, refl, Children.pages-start (pow-pos _), Children.stores-start)
+  loop-holds c = let a = start (c .before .before .before .before) .args in (omega arith, omega (arith, Children.before-start (2 ^ a .bits) (a .h - 1) (a .n) (a .l)), Children.stores-start)
+
+  part-length-requires : N lts.Need-part-length-requires
+  part-length-requires c κs = let w = c .before .before .before in (omega (arith, w .before .span .ensures .high), omega (arith, w .width .ensures .most))
 
   part-requires : N lts.Need-part-requires
-  part-requires c κs = (omega (arith, c .before .before .before .before .span .ensures .high), omega (arith, c .before .before .before .width .ensures .most))
+  part-requires c κs = let w = found (c .before) .before .before in (omega (arith, w .before .span .ensures .high), omega (arith, w .width .ensures .most))
 
   mul-minus : N lts.Need-mul-minus
-  mul-minus c = omega (arith, mul-le-mul (c .before .before .before .before .loop-test .taken) (c .before .before .before .before .before .before .before .before .span .ensures .high))
+  mul-minus c = let p = c .before .before .before .before in omega (arith, mul-le-mul (p .before .loop-test .taken) (found p .before .before .before .span .ensures .high))
 
   -- the address of word j of block k
-  address : (c : N lts.In-loop) → let l = c .before in let a = l .before .before .before .before .before .before .before .before .before .before .before .before .args in l .before .start-of .result + l .loop .j ≡ 2 ^ a .bits * a .k + l .loop .j
-  address c = let l = c .before in ap (λ (x : ℕ). x + l .loop .j) (l .before .start-of .ensures)
+  address : (l : N lts.At-loop) → let a = start (tall l .before) .args in l .before .start-of .result + l .loop .j ≡ 2 ^ a .bits * a .k + l .loop .j
+  address l = ap (λ (x : ℕ). x + l .loop .j) (l .before .start-of .ensures)
 
-  less : (c : N lts.In-loop) → let l = c .before in l .loop .j < 2 ^ l .before .before .before .before .before .before .before .before .before .before .before .before .args .bits
+  less : (c : N lts.In-loop) → let l = c .before in l .loop .j < 2 ^ start (tall l .before) .args .bits
   less c = omega (arith, c .loop-test .taken, c .before .before .before .width .ensures .is)
 
   add-in-place : N lts.Need-add-in-place
-  add-in-place c = omega (arith, less (c .before .before .before .before .before .before .before), address (c .before .before .before .before .before .before .before), c .before .before .before .before .before .before .before .before .before .before .before .before .before .before .before .before .before .before .before .before .pre .1 .1)
+  add-in-place c = let i = c .before .before .before .before .before .before .before in let l = i .before in omega (arith, less i, address l, start (tall l .before) .pre .1 .1)
+
+  -- what is taken under child j
+  taken-next : (i : N lts.In-loop) {left own m : ℕ} → let l = i .before in let v = tall l in let s = start (v .before) in
+      left ≡ s .args .n - l .loop .j * l .before .before .before .span .result → own ≡ partLength (l .before .before .before .span .result) (l .loop .j) (s .args .n) (s .args .l)
+      → m ≡ tailNeed (2 ^ s .args .bits) (s .args .h - 1) left own → l .loop .taken + m ≡ s .args .c + tailBefore (2 ^ s .args .bits) (s .args .h - 1) (s .args .n) (s .args .l) (l .loop .j + 1)
+  taken-next i el eo em = let l = i .before in let s = start (tall l .before) in
+      omega (arith, l .loop .inv .1, Children.before-more (2 ^ s .args .bits) (s .args .h - 1) (s .args .n) (s .args .l) (l .loop .j) (l .before .before .before .span .ensures .is) el eo em)
+
+  -- it is among all that is taken
+  taken-small : (i : N lts.In-loop) → let l = i .before in let s = start (tall l .before) in
+      s .args .c + tailBefore (2 ^ s .args .bits) (s .args .h - 1) (s .args .n) (s .args .l) (l .loop .j + 1) ≤ 2 ^ 32
+  taken-small i = let l = i .before in let v = tall l in let s = start (v .before) in let W = 2 ^ s .args .bits in
+      omega (
+        arith,
+        Children.before-within W (s .args .h - 1) (s .args .n) (s .args .l) (l .loop .j) (less i),
+        Children.need-tree W (s .args .h) (s .args .n) (s .args .l) (v .if4 .left) (v .before .before .if1 .left),
+        s .pre .1 .4,
+      )
 
   in-place-requires : N lts.Need-in-place-requires
-  in-place-requires c κs = let u = c .before .before .before .before .before .before in let i = u .before in let l = i .before in let v = l .before .before .before .before in
-      let s = v .before .before .before .before .before .before .before .before in let a = s .args in let W = 2 ^ a .bits in let pos = pow-pos (a .bits) in
-      let size = l .before .before .before .span .ensures .is in let own = u .part .ensures in let left = c .before .before .minus .ensures in
-      let x = c .before .before .before .before in let d = c .before .before .before .block-of .ensures in
-      let pages = Children.pages-room pos (l .loop .inv .2) size own (less i) left in
-      let stores = Children.stores-room (l .loop .inv .3) size own (x .cell-on .ensures) d left (Children.pages-count pos (l .loop .inv .2)) (address i) (less i) in
-      let need = Children.need-tree W (a .h) (a .n) (length (a .new .now)) (v .if4 .left) (v .before .before .if1 .left) in
-      let all = Children.tree-stores (2 ^ a .bits) (onto (2 ^ a .bits) (a .free .now) (a .board .now) (a .grown)) (hooks (2 ^ a .bits) (a .free .now)) (a .h) (a .k) (a .n) (a .new .now) (a .c) (a .a)
-      (v .if4 .left) (v .before .if3 .left) (v .before .before .if1 .left) in
-      let low : a .h - 1 ≤ a .h = omega arith in (
-        omega (arith, s .pre .0),
+  in-place-requires c κs =
+      let m = c .before in
+      let d = m .before in
+      let x = d .before in
+      let own = x .before in
+      let p = own .before .before in
+      let i = p .before in
+      let l = i .before in
+      let v = tall l in
+      let s = start (v .before) in
+      let a = s .args in
+      let size = l .before .before .before .span .ensures .is in
+      let stores = Padding.room (a .l) (a .new .now) (s .pre .1 .3) (l .loop .inv .2) size (p .part-length .ensures) (own .part .ensures) (x .cell-on .ensures) (d .block-of .ensures) (m .minus .ensures) (l .loop .inv .1) (address l) (less i) in
+      let all = Children.tree-stores (2 ^ a .bits) (seen s) (hooks (2 ^ a .bits) (a .free .now)) (a .h) (a .k) (a .n) (bytes s) (a .c) (a .a) (v .if4 .left) (v .before .if3 .left) (v .before .before .if1 .left) in (
+        omega (arith, s .pre .0, v .if4 .left),
         (
           lower (s .pre .1 .0),
-          rw d (Widths.address-room (s .pre .1 .0 .width) (x .cell-on .result) (omega arith)),
+          rw (d .block-of .ensures) (Widths.address-room (s .pre .1 .0 .width) (x .cell-on .result) (omega arith)),
           s .pre .1 .2,
-          omega (arith, s .pre .1 .3, l .loop .inv .1, mul-le-mul-left W low),
-          omega (arith, mul-le-mul-left W pages, rw need at (s .pre .1 .4)),
+          Padding.own-fits (a .l) (a .new .now) (s .pre .1 .3) (l .loop .inv .2) size (p .part-length .ensures) (own .part .ensures),
+          omega (arith, taken-next i (m .minus .ensures) (p .part-length .ensures) refl, taken-small i),
           omega (arith, s .pre .1 .5, stores, ap length all),
         ),
       )
 
-  slice-aggregate-tail-pages : N lts.Need-slice-aggregate-tail-pages
-  slice-aggregate-tail-pages c = sym (Taken.same-length (c .before .before .before .before .before .before .before .before .before .before .before .before .before .before .loop .inv .2 .took))
+  tail-need-requires : N lts.Need-tail-need-requires
+  tail-need-requires c κs = lower (start (tall (found (c .before .before .before .before .before .before .before .before .before)) .before) .pre .1 .0)
 
-  tail-pages-requires : N lts.Need-tail-pages-requires
-  tail-pages-requires c κs = let u = c .before .before .before .before .before .before .before .before .before .before .before .before .before in let i = u .before in let l = i .before in let v = l .before .before .before .before in
-      let s = v .before .before .before .before .before .before .before .before in let a = s .args in let W = 2 ^ a .bits in
-      let pages = Children.pages-room (pow-pos (a .bits)) (l .loop .inv .2) (l .before .before .before .span .ensures .is) (u .part .ensures) (less i) (c .before .before .before .before .before .before .before .before .before .minus .ensures) in
-      let need = Children.need-tree W (a .h) (a .n) (length (a .new .now)) (v .if4 .left) (v .before .before .if1 .left) in
-      let low : a .h - 1 ≤ a .h = omega arith in
-      (lower (s .pre .1 .0), s .pre .1 .2, omega (arith, s .pre .1 .3, c .before .before .before .before .before .before .in-place .kept .1 .1 .1 .1 .1 .0, l .loop .inv .1, mul-le-mul-left W low), omega (arith, mul-le-mul-left W pages, rw need at (s .pre .1 .4)))
+  add-taken : N lts.Need-add-taken
+  add-taken c =
+      let m = c .before .before .before .before .before in
+      let p = m .before .before .before .before .before in
+      omega (arith, taken-next (p .before) (m .minus .ensures) (p .part-length .ensures) (c .tail-need .ensures .is), taken-small (p .before))
 
   loop-again : N lts.Need-loop-again
-  loop-again c = let i = c .before .before in let l = i .before in let v = l .before .before .before .before in let a = v .before .before .before .before .before .before .before .before .args in let pos = pow-pos (a .bits) in
-      let size = l .before .before .before .span .ensures .is in let own = c .before .part .ensures in
+  loop-again c =
+      let p = c .before in
+      let i = p .before in
+      let l = i .before in
+      let s = start (tall l .before) in
+      let a = s .args in
+      let size = l .before .before .before .span .ensures .is in
       ⊎-elim
-      (λ w. rw (w .17, w .18, w .19, w .20, w .21) (
+      (λ w. rw (w .10, w .11, w .12) (
         omega arith,
-        w .13 .kept .1 .1 .1 .1 .1 .0 ∙ w .6 .kept .1 .1 .1 .1 .1 .0 ∙ l .loop .inv .1,
-        Children.pages-step pos (l .loop .inv .2) size own
-            (Children.as-link (2 ^ a .bits) pos (onto (2 ^ a .bits) (a .free .now) (a .board .now) (a .grown)) (a .k) (l .loop .j) (v .before .if3 .left) (w .1 .ensures)) (w .2 .ensures) (w .3 .ensures) (w .13 .ensures),
-        Children.stores-step (l .loop .inv .3) size own (w .1 .ensures) (w .2 .ensures) (w .3 .ensures) (Children.pages-count pos (l .loop .inv .2)) (address i) (w .6 .ensures),
+        taken-next i (w .4 .ensures) (p .part-length .ensures) (w .9 .ensures .is),
+        Padding.step (a .l) (a .new .now) (s .pre .1 .3) (l .loop .inv .2) size (p .part-length .ensures) (w .1 .ensures) (w .2 .ensures) (w .3 .ensures) (w .4 .ensures) (l .loop .inv .1) (address l) (w .6 .ensures),
       ))
-      (λ w. rw (w .1, w .2, w .3, w .4, w .5) (
+      (λ w. rw (w .1, w .2, w .3) (
         omega arith,
-        l .loop .inv .1,
-        Children.pages-skip pos (l .loop .inv .2) size own (w .0 .left),
-        Children.stores-skip (l .loop .inv .3) size own (w .0 .left),
+        omega (arith, taken-next i refl (p .part-length .ensures) (sym (Children.need-empty (2 ^ a .bits) (a .h - 1) _ (p .part-length .result) (w .0 .left)))),
+        Padding.skip (a .l) (a .new .now) (s .pre .1 .3) (l .loop .inv .2) size (p .part-length .ensures) (w .0 .left),
       ))
       (c .if5 .came)
 
-  same-length-4 : N lts.Need-same-length-4
-  same-length-4 c = Laying.same-length (c .before .loop .inv .3 .laid)
-
-  same-length-5 : N lts.Need-same-length-5
-  same-length-5 c = c .before .loop .inv .1
+  same-length-3 : N lts.Need-same-length-3
+  same-length-3 c = Laying.same-length (c .before .loop .inv .2 .laid)
 
   returns-5 : N lts.Need-returns-5
-  returns-5 c = let l = c .before in let v = l .before .before .before .before in let a = v .before .before .before .before .before .before .before .before .args in
-      Children.laid-tree (2 ^ a .bits) (onto (2 ^ a .bits) (a .free .now) (a .board .now) (a .grown)) (hooks (2 ^ a .bits) (a .free .now)) (a .h) (a .k) (a .n) (a .new .now) (a .c) (a .a)
-      (v .if4 .left) (v .before .if3 .left) (v .before .before .if1 .left) (omega (arith, l .before .before .width .ensures .is)) (l .loop .inv .3)
+  returns-5 c = let l = c .before in let v = tall l in let s = start (v .before) in let a = s .args in
+      Children.laid-tree (2 ^ a .bits) (seen s) (hooks (2 ^ a .bits) (a .free .now)) (a .h) (a .k) (a .n) (bytes s) (a .c) (a .a)
+      (v .if4 .left) (v .before .if3 .left) (v .before .before .if1 .left) (omega (arith, l .before .before .width .ensures .is)) (l .loop .inv .2)
 
 pub +in-place-spec : {M : Type 1} → statement M
 +in-place-spec = close μ λ t. lts.spec (known t) (at t) in-place.Post Inv-loop μ-loop
@@ -204,7 +250,6 @@ pub +in-place-spec : {M : Type 1} → statement M
     (hook-requires t)
     (λ c κs. search needs)
     (λ c. omega arith)
-    (λ c. search needs)
     (λ c. search needs)
     (returns-2 t)
     (returns-3 t)
@@ -216,6 +261,7 @@ pub +in-place-spec : {M : Type 1} → statement M
     (λ c κs. search needs)
     (start-of-requires t)
     (loop-holds t)
+    (part-length-requires t)
     (part-requires t)
     (λ c κs. search needs)
     (λ c κs. search needs)
@@ -224,12 +270,11 @@ pub +in-place-spec : {M : Type 1} → statement M
     (λ c. omega arith)
     (add-in-place t)
     (in-place-requires t)
-    (slice-aggregate-tail-pages t)
     (λ c. omega arith)
-    (tail-pages-requires t)
+    (tail-need-requires t)
+    (add-taken t)
     (λ c. omega arith)
     (λ c. omega arith)
     (loop-again t)
-    (same-length-4 t)
-    (same-length-5 t)
+    (same-length-3 t)
     (returns-5 t)

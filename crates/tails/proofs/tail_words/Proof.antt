@@ -1,7 +1,6 @@
 use mathlib.Core.Logic.{⊎-elim}
 use Prim.Native.Nat.{_-_, _^_, _≤_}
 use native.Mathlib.Omega.{arith}
-use lib.Pow.{pow-pos}
 use borrow.Author.Needs.{needs}
 use Rattle.words.proofs.Widths as Widths
 use Rattle.plans.specs.Onto.{onto}
@@ -16,6 +15,9 @@ Inv-loop bits board grown free plan₀ p k n l new w to q₀ j₀ plan q j = (j 
 abbrev μ-loop : tie.MeasureT-loop
 μ-loop bits board grown free plan₀ p k n l new w to q₀ j₀ plan q j = w - j
 
+abbrev start : tie.At-loop Inv-loop μ-loop → tie.Start Inv-loop μ-loop
+start c = c .before .before .before .before .before .before .before
+
 start-of-requires : tie.Need-start-of-requires Inv-loop μ-loop
 start-of-requires c κs = let s = c .before .before .before .before .before in (search needs, omega (arith, s .pre .1, Widths.least (s .pre .0 .width)))
 
@@ -25,19 +27,18 @@ loop-holds c = (omega arith, none)
 part-length-requires : tie.Need-part-length-requires Inv-loop μ-loop
 part-length-requires c κs = (omega arith, omega (arith, c .before .before .before .width .ensures .most))
 
-add-pair : tie.Need-add-pair Inv-loop μ-loop
-add-pair c = omega (arith, c .before .before .before .before .before .before .before .before .before .before .before .before .pre .1, c .before .before .before .before .before .before .start-of .ensures, c .before .before .before .before .before .before .before .width .ensures .is)
+data-word-requires : tie.Need-data-word-requires Inv-loop μ-loop
+data-word-requires c κs = let l = c .before .before .before in (start l .pre .0, omega (arith, l .before .before .width .ensures .most))
 
-spliced-requires : tie.Need-spliced-requires Inv-loop μ-loop
-spliced-requires c κs = omega (arith, c .before .before .before .before .before .before .before .width .ensures .most)
+add-pair : tie.Need-add-pair Inv-loop μ-loop
+add-pair c = let l = c .before .before .before .before .before in omega (arith, start l .pre .1, l .before .start-of .ensures, l .before .before .width .ensures .is)
 
 loop-again : tie.Need-loop-again Inv-loop μ-loop
 loop-again c =
-    let l = c .before .before .before in
-    let s = l .before .before .before .before .before .before .before in (
+    let l = c .before .before .before in (
       omega arith,
       ⊎-elim
-          (λ w. rw (w .7, w .8) (one-more (l .loop .inv .1) (c .before .part-length .ensures) (pow-pos (s .args .bits)) (w .0 .taken) (s .pre .2) (w .1 .ensures) (w .3 .ensures) (w .4 .ensures) (omega (arith, l .before .start-of .ensures))))
+          (λ w. rw (w .6, w .7) (one-more (l .loop .inv .1) (c .before .part-length .ensures) (w .0 .taken) (w .1 .ensures) (w .3 .ensures) (omega (arith, l .before .start-of .ensures))))
           (λ w. rw (w .1, w .2) (skip (l .loop .inv .1) (c .before .part-length .ensures) (w .0 .left)))
           (c .if1 .came),
     )
@@ -58,9 +59,8 @@ tail-words-spec =
     start-of-requires
     loop-holds
     part-length-requires
-    (λ c κs. search needs)
+    data-word-requires
     add-pair
-    spliced-requires
     (λ c κs. search needs)
     (λ c. search needs)
     (λ c. search needs)

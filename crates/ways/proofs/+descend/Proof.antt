@@ -51,11 +51,21 @@ module _ (t : ℕ) where
   abbrev N : (lts.Claims → In 3 kinds.ps → Out 3 kinds.ps kinds.r → Type 0) → Type 0
   N F = F (known t) (at t) descend.Post
 
+  -- from where the child's span is known to the start, from the pointer to there, and from the address of the next one to the pointer
+  abbrev start : N lts.After-span → N lts.Start
+  start c = c .before .before .before .before .before .before
+
+  abbrev within : N lts.After-cell-on → N lts.After-span
+  within c = c .before .before
+
+  abbrev read : N lts.After-start-of → N lts.After-cell-on
+  read c = c .before .before .before
+
   pos : (c : N lts.After-span) → 0 < c .span .result
   pos c = omega (arith, c .span .ensures .low)
 
-  in-child : (c : N lts.After-span) → let a = c .before .before .before .before .before .before .args in (a .o / c .span .result < 2 ^ a .bits) × (a .o % c .span .result < span (2 ^ a .bits) (a .h - 1))
-  in-child c = let s = c .before .before .before .before .before .before in lies (2 ^ s .args .bits) (pow-pos (s .args .bits)) (c .before .before .if1 .left) (c .span .ensures .is) (s .pre .1 .3)
+  in-child : (c : N lts.After-span) → let a = start c .args in (a .o / c .span .result < 2 ^ a .bits) × (a .o % c .span .result < span (2 ^ a .bits) (a .h - 1))
+  in-child c = let s = start c in lies (2 ^ s .args .bits) (pow-pos (s .args .bits)) (c .before .before .if1 .left) (c .span .ensures .is) (s .pre .1 .3)
 
   returns : N lts.Need-returns
   returns c = at-data (c .if1 .taken)
@@ -67,36 +77,39 @@ module _ (t : ℕ) where
   span-requires c κs = lower (c .before .before .before .before .before .pre .1 .0)
 
   add-if3 : N lts.Need-add-if3
-  add-if3 c = let s = c .before .before .before .before .before .before in omega (arith, c .span .ensures .high, mod-lt (s .args .o) (pos c), s .pre .1 .4)
+  add-if3 c = let s = start c in omega (arith, c .span .ensures .high, mod-lt (s .args .o) (pos c), s .pre .1 .4)
 
   returns-3 : N lts.Need-returns-3
-  returns-3 c = at-wide (c .before .before .before .if1 .left) (c .before .before .if2 .left) (c .before .span .ensures .is) (c .if3 .taken)
+  returns-3 c = let m = c .before in at-wide (m .before .before .if1 .left) (m .before .if2 .left) (m .span .ensures .is) (c .if3 .taken)
 
   mul-minus : N lts.Need-mul-minus
-  mul-minus c = let s = c .before .before .before in omega (arith, div-mul-le-self (c .before .before .before .before .before .before .before .before .before .args .o) (s .span .result))
+  mul-minus c = let m = within (c .before) in omega (arith, div-mul-le-self (start m .args .o) (m .span .result))
 
   start-of-requires : N lts.Need-start-of-requires
-  start-of-requires c κs = let s = c .before .before .before .before .before .before .before .before .before .before in (omega (arith, s .pre .1 .0 .width .high), omega (arith, s .pre .1 .2, Widths.least (s .pre .1 .0 .width)))
+  start-of-requires c κs = let s = start (within (c .before .before)) in (omega (arith, s .pre .1 .0 .width .high), omega (arith, s .pre .1 .2, Widths.least (s .pre .1 .0 .width)))
 
   add-to : N lts.Need-add-to
-  add-to c = let s = c .before .before .before .before .before .before .before .before .before .before .before in omega (arith, c .start-of .ensures, s .pre .1 .2, in-child (c .before .before .before .before .before) .0)
+  add-to c = let m = within (read c) in omega (arith, c .start-of .ensures, start m .pre .1 .2, in-child m .0)
 
   descend-requires : N lts.Need-descend-requires
-  descend-requires c κs = let s = c .before .before .before .before .before .before .before .before .before .before .before in (
+  descend-requires c κs = let p = read c in let m = within p in let s = start m in (
     omega (arith, s .pre .0),
     (
       lower (s .pre .1 .0),
       s .pre .1 .1,
-      rw (c .before .before .block-of .ensures) (Widths.address-room (s .pre .1 .0 .width) (c .before .before .before .cell-on .result) (omega arith)),
-      in-child (c .before .before .before .before .before) .1,
+      rw (c .before .before .block-of .ensures) (Widths.address-room (s .pre .1 .0 .width) (p .cell-on .result) (omega arith)),
+      in-child m .1,
       s .pre .1 .4,
     ),
   )
 
   returns-4 : N lts.Need-returns-4
-  returns-4 c = let s = c .before .before .before .before .before .before in
-      down (c .before .before .before .before .before .before .before .before .if1 .left) (c .before .before .before .before .before .before .before .if2 .left) (s .span .ensures .is) (omega (arith, c .before .before .before .before .before .if3 .left)) (c .before .before .before .before .cell-on .ensures) (c .before .before .before .block-of .ensures)
-      (c .before .before .minus .ensures) (ap (λ (x : ℕ). x + c .before .before .before .before .before .before .before .before .before .before .before .before .args .o / s .span .result) (c .before .start-of .ensures)) (c .descend .ensures)
+  returns-4 c =
+      let to = c .before in
+      let p = read to in
+      let m = within p in
+      down (m .before .before .if1 .left) (m .before .if2 .left) (m .span .ensures .is) (omega (arith, p .before .if3 .left)) (p .cell-on .ensures) (to .before .before .block-of .ensures)
+      (to .before .minus .ensures) (ap (λ (x : ℕ). x + start m .args .o / m .span .result) (to .start-of .ensures)) (c .descend .ensures)
 
 pub +descend-spec : {M : Type 1} → statement M
 +descend-spec = close μ λ t. lts.spec (known t) (at t) descend.Post
