@@ -20,7 +20,7 @@ pub record Layout : Type 0 where
 abbrev pub house : Layout
 house = record { words = 8; height = 3; leaves = 8; inodes = 4; mark = 1; most = 1024 }
 
--- a board with the published block, of 512 words. No call takes one yet; code is proved for its figures too
+-- a board with the published block, of 512 words. No call takes one yet; code is proved for its figures too. That its spare inode pointers are 0 is not asked
 abbrev pub published : Layout
 published = record { words = 512; height = 1; leaves = 1; inodes = 32; mark = 3; most = 512 }
 
