@@ -22,8 +22,8 @@ pub fn bits(kind: Kind) -> u64
     }
 }
 
-// A leaf has 2 ^ bits inodes.
-pub fn inode_bits(kind: Kind) -> u64
+// A leaf has 2 inodes to this power.
+fn inode_bits(kind: Kind) -> u64
     ensures { λ r. ⌜ InodeBits kind r ⌝ }
 {
     match kind {

@@ -11,7 +11,7 @@ pub record PerformResult (g : Layout) (b slice : List ℕ) (k : ℕ) (r : Answer
   pub answer : r ≡ performAnswer g b slice k
   pub board : b′ ≡ performBoard g b slice k
 
--- the place in format's plan of the first store to the trailer's words from word 1 on
+-- the place in format's plan of the first store to the trailer's words from word 1 on: at most 14 blocks of 512 words lie before it
 pub record Place (kind : Kind) (r : ℕ) : Type 0 where
   pub is : r ≡ 2 + layoutOf kind .words * (1 + layoutOf kind .leaves)
   pub most : r ≤ 7170

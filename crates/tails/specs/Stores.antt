@@ -1,4 +1,4 @@
--- Stores to words that exist: what a pointer gets that isn't live and leads to written bytes, and the words of a data block.
+-- Stores to words that exist: what a pointer gets that isn't live and leads to written bytes, the words of a data block, and bytes with zeros behind them.
 use mathlib.Core.List.{List, [], _∷_, _++_}
 use Prim.Native.Nat.{ℕ, _+_, _-_, _*_}
 use lib.ListN.{length, replicate}

@@ -260,7 +260,7 @@ pub fn in_place(
     q
 }
 
-// The same where l zeros are written: a pointer that isn't live gets 0, since no block is free for it.
+// The same where l zeros are written and no other bytes. By an empty table of free blocks a pointer that isn't live gets 0.
 pub fn clear_in_place(
     bits: u64,
     board: &[u64],

@@ -164,7 +164,7 @@ module _ (g : Layout) {W : ℕ} (is : g .words ≡ W) (c : List ℕ) (n : Inode)
       rw (← eh, is, ← count, ← took .next, ← ev) (one-step (n .at + 1) (o + length new) t′ hidden (rw (eq, ep) at l) refl)
 
   module _ {h k : ℕ} (eh : h ≡ n .root % W) (ek : k ≡ n .root / W) where
-    -- in another file
+    -- in a file that is not empty
     pub tail-laid : (new : List ℕ) {plan₂ plan₃ : List ℕ} {x r : ℕ} → 0 < n .size → Took W free plan base t (tailPages W c (taking free) h k (n .size) new t) plan₁ t′
         → Laid plan₁ q (inPlace W c (hooks W free) h k (n .size) new t (n .at)) plan₂ x → Laid plan₂ x (closing (x - p) (store (n .at + 1) (n .size + length new))) plan₃ r
         → PlanLaid plan (base + W * t) (tail g (taking free) c n (n .size) (n .size) new t) plan₃ (record { pairs = r; taken = t′ })

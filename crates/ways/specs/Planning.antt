@@ -25,7 +25,8 @@ pub record Pages (kind : Kind) (bits : ℕ) (pages : List ℕ) : Type 0 where
   pub wide : Bits kind bits
   pub room : 2 ^ bits * layoutOf kind .height ≤ length pages
 
--- A write of `new` at o that stays within the bounds, to the file with inode n, whose tree spans it. The size stands in the word after the root
+-- A write of `new` at o that stays within the bounds, to the file with inode n, whose tree spans it. The size stands in the word after the root;
+-- `scratch` has room for the pages
 pub record Ready (kind : Kind) (bits : ℕ) (n : Inode) (o : ℕ) (new free scratch : List ℕ) (grown : Grown) (base taken : ℕ) : Type 0 where
   pub pages : Pages kind bits scratch
   pub pointers : Pointers bits free grown
