@@ -228,10 +228,11 @@ int main(int argc, char **argv)
 {
     make_boards();
     if (argc == 4) {
+        const Calls *build = &builds[atoi(argv[1]) != 0];
         const Row *row = &rows[(unsigned)atoi(argv[2]) % ROWS];
         prepare(row);
         for (int i = atoi(argv[3]); i > 0; i--)
-            done(call(&builds[atoi(argv[1]) != 0], row));
+            done(call(build, row));
         return 0;
     }
     assert_same();
