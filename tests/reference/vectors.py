@@ -46,13 +46,25 @@ use Rattle.model.specs.Store.{store, laid}
 use Rattle.model.specs.Plan.{pairs}
 use Rattle.model.specs.Hidden.{hidden}
 use Rattle.model.specs.GivenUp.{lengthGives, writeGives}
+use Rattle.model.specs.Answers.{number}
 use Rattle.model.specs.Calls.{checkAnswer, freeCountAnswer, sizeAnswer, readAnswer, readBuffer, Planned, lowest, write, setLength, format, performAnswer, performBoard}
 use Rattle.model.specs.Cabinet.{imageCheck, imageSize, imageRead, imageReadBuffer}
 use Rattle.model.specs.Lister.{listing}
-use Rattle.model.specs.Examples.{sameList, sameAnswer}
 use Rattle.model.proofs.Computing.{computes}
 use Rattle.bands.specs.Sheet.{row, sheet, lies, heightIn, sheetHeight}
 use Rattle.bands.specs.Planned.{wayBy, growthBy, grownInodeBy, somePlanBy, writePlanBy}
+
+sameList : List ℕ → List ℕ → Bool
+sameList [] [] = true
+sameList [] (y ∷ ys) = false
+sameList (x ∷ xs) [] = false
+sameList (x ∷ xs) (y ∷ ys) = eqb x y && sameList xs ys
+
+sameAnswer : Answer → Answer → Bool
+sameAnswer (Done m) (Done n) = eqb m n
+sameAnswer (Done m) (Refused f) = false
+sameAnswer (Refused e) (Done n) = false
+sameAnswer (Refused e) (Refused f) = eqb (number e) (number f)
 
 samePlanned : Planned → Answer → List ℕ → Bool
 samePlanned p a slice = sameAnswer (p .answer) a && sameList (p .slice) slice

@@ -57,6 +57,6 @@ pub mod Rules
 pub mod WayNeeds
 pub mod PastEnd
 pub mod FormatCut
--- The marked examples by computation
+-- Proofs by computation, and format by one
 pub mod Computing
-pub mod Marked
+pub mod FormatExample

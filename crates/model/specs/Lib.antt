@@ -1,5 +1,5 @@
 -- Document 01 in definitions: the board (Layout to Board), how a change is planned (Store to Format), what each call answers (Answers, Calls,
--- Cabinet, Lister), the power-cut rule (Cut to Orders), and the marked examples. Lists and Words are what they are written with.
+-- Cabinet, Lister), and the power-cut rule (Cut to Orders). Lists and Words are what they are written with.
 pub mod Lists
 pub mod Words
 pub mod Layout
@@ -21,4 +21,3 @@ pub mod Cut
 pub mod Safe
 pub mod Claims
 pub mod Orders
-pub mod Examples

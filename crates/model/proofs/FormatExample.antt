@@ -1,27 +1,17 @@
--- The marked set of document 01's bench examples holds, and so do the writes past the end: every row of the two tables, by computation.
+-- Format on 16 blocks, by computation: 83 pairs, the trailer and block 1 as document 01 has them, and 32 files of size 0.
 use mathlib.Core.Path.{_≡_, refl}
 use mathlib.Core.Bool.{true}
 use mathlib.Core.List.{List, [], _∷_}
 use Prim.Native.Nat.{ℕ}
 use lib.ListN.{length, replicate}
-use Rattle.model.specs.Lists.{tabulate, all}
+use Rattle.model.specs.Lists.{tabulate}
 use Rattle.model.specs.Layout.{house}
 use Rattle.model.specs.Board.{trailer, inodePointer, size, accepted}
 use Rattle.model.specs.Store.{performed, stores}
 use Rattle.model.specs.Plan.{pairs}
 use Rattle.model.specs.Format.{formatPlan}
-use Rattle.model.specs.Examples.{plannedOf, takenBy, lentSlice, ran, ranAll, boardOf, sameList, sameAnswer, saw, holds, row, fence, filled, E2, E2-plan, E4-plan, E8-plan, E1-rows, E2-rows, E3-row, E4-row, E5-row, E6-row, E7-row, E8-row, E9-rows, table, pastPlan, pastEnd}
 use Rattle.model.proofs.Computing.{computes}
 
-pub marked : all holds table ≡ true
-unfolding computes table E1-rows E2-rows E3-row E4-row E5-row E6-row E7-row E8-row E9-rows E2-plan E4-plan E8-plan E2 filled fence row holds saw sameAnswer sameList boardOf ranAll ran lentSlice takenBy plannedOf
-marked = refl
-
-pub past-end : all holds pastEnd ≡ true
-unfolding computes pastEnd pastPlan E2 filled fence row holds saw sameAnswer sameList boardOf ranAll ran lentSlice takenBy plannedOf
-past-end = refl
-
--- Format on 16 blocks, by computation: 83 pairs, the trailer and block 1 as document 01 has them, and 32 files of size 0
 abbrev pub blank : List ℕ
 blank = replicate 128 7
 
