@@ -1,7 +1,2 @@
--- What the proofs of several functions use: pages laid for fresh blocks (Taken), how many there are at most (Room), words with bytes written into them (Splicing), trees that are
--- written from their start (WholeTrees), and the blocks of a fresh tree (Trees).
-pub mod Taken
-pub mod Room
-pub mod Splicing
-pub mod WholeTrees
+-- The blocks of a fresh tree.
 pub mod Trees

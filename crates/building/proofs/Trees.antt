@@ -19,8 +19,8 @@ use Rattle.model.proofs.Splice.{length-part, choose-zero, choose-pos}
 use Rattle.model.proofs.Paths.{kidNeed, fresh-none, fresh-node, fresh-pos, fresh-quiet}
 use Rattle.model.proofs.Built.{kid, kid-lengths, build-none, build-data, build-node, length-build, room}
 use Rattle.plans.specs.Onto.{taking}
-use Rattle.building.specs.Taking.{Took}
-use Rattle.building.proofs.Taken as Taken
+use Rattle.taking.specs.Taking.{Took}
+use Rattle.taking.proofs.Taken as Taken
 
 -- ---- What is built
 

@@ -19,8 +19,8 @@ use Rattle.model.proofs.Perform.{length-tabulate}
 use Rattle.kinds.proofs.Figures.{fits, files-32, block-room}
 use Rattle.plans.specs.Laying.{closing, Laid}
 use Rattle.plans.specs.Onto.{taking, Blocks}
-use Rattle.building.specs.Taking.{Took}
-use Rattle.building.proofs.Taken as Taken
+use Rattle.taking.specs.Taking.{Took}
+use Rattle.taking.proofs.Taken as Taken
 use Rattle.growing.specs.Planned.{PlanLaid, AddressOf, InodeOf}
 use Rattle.growing.proofs.OneStep.{one-step}
 

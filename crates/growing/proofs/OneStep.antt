@@ -12,7 +12,7 @@ use Rattle.model.specs.Plan.{step, planEpochs, plan, pairs}
 use Rattle.model.specs.Change.{splicedWord, singleWord}
 use Rattle.plans.specs.Laying.{closing, Laid}
 use Rattle.plans.proofs.Laying as Laying
-use Rattle.building.specs.Taking.{splicedByte}
+use Rattle.taking.specs.Taking.{splicedByte}
 use Rattle.growing.specs.Planned.{PlanLaid}
 
 -- the pairs of such a plan

@@ -2,8 +2,6 @@
 // answers how many pairs the plan has then and how many fresh blocks are taken.
 use boards::inode_pointer;
 use boards::trailer;
-use building::spliced;
-use building::take;
 use kinds::block_in;
 use kinds::inode_in;
 use kinds::leaf_in;
@@ -13,6 +11,8 @@ use model::Kind;
 use plans::commit;
 use plans::level_below;
 use plans::pair;
+use taking::spliced;
+use taking::take;
 use words::block_of;
 use words::low_of;
 use words::start_of;
@@ -24,7 +24,7 @@ ghost use Rattle.model.specs.Change.{levels, levelTop, growthTo, singleWord};
 ghost use Rattle.words.specs.Width.{Width};
 ghost use Rattle.kinds.specs.Figures.{Bits};
 ghost use Rattle.plans.specs.Onto.{taking, Blocks};
-ghost use Rattle.building.specs.Taking.{Took};
+ghost use Rattle.taking.specs.Taking.{Took};
 ghost use Rattle.growing.specs.Planned.{PlanLaid, AddressOf, InodeOf};
 
 // How many pairs a plan has and how many fresh blocks it takes.

@@ -20,8 +20,8 @@ use Rattle.model.proofs.Tailed.{tailNeed-dead, length-tail}
 use Rattle.plans.specs.Laying.{Laid}
 use Rattle.plans.proofs.Laying as Laying
 use Rattle.plans.specs.Onto.{taking}
-use Rattle.building.specs.Taking.{Took}
-use Rattle.building.proofs.Taken as Taken
+use Rattle.taking.specs.Taking.{Took}
+use Rattle.taking.proofs.Taken as Taken
 use Rattle.tails.specs.Stores.{wordStores}
 
 joined-next : {A : Type 0} (j : ℕ) (f : ℕ → List A) → joined (j + 1) f ≡ joined j f ++ f j

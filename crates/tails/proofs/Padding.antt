@@ -21,7 +21,7 @@ use Rattle.plans.specs.declared.Grown.{Grown}
 use Rattle.plans.specs.Laying.{Laid}
 use Rattle.plans.specs.Onto.{taking, onto, NotGrown, Pointers}
 use Rattle.plans.proofs.Onto.{onto-none}
-use Rattle.building.proofs.Splicing.{word-cong}
+use Rattle.taking.proofs.Splicing.{word-cong}
 use Rattle.tails.specs.Stores.{hooks, wordStores, padded}
 use Rattle.tails.proofs.Children as Children
 

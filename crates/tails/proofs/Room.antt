@@ -10,8 +10,8 @@ use Rattle.model.specs.Store.{Store, store}
 use Rattle.model.specs.Fresh.{part, partLength, dataPage}
 use Rattle.model.specs.InPlace.{tailNeed, tailBefore, tailWords, hooked, inPlace}
 use Rattle.model.proofs.Cases.{length-joined}
-use Rattle.building.specs.Taking.{whole}
-use Rattle.building.proofs.Room.{terms, need-most}
+use Rattle.taking.specs.Taking.{whole}
+use Rattle.taking.proofs.Room.{terms, need-most}
 
 pub tail-most : (W h n l : ℕ) → tailNeed W h n l ≤ whole W h
 unfolding tailNeed whole

@@ -1,18 +1,18 @@
 // Writing at the end of a file in place: fresh subtrees, and stores to words that exist. The names of arguments are those of `building`; n is both the
 // end of the tree's visible bytes and the place where `new` is written. A block has 2 ^ bits words; `pages` has room for a page on each level.
 use building::build;
-use building::data_word;
-use building::minus;
-use building::part;
-use building::part_length;
-use building::pointer;
-use building::tree_need;
 use model::WalkEnd;
 use plans::Grown;
 use plans::cell_on;
 use plans::link_on;
 use plans::not_grown;
 use plans::pair;
+use taking::data_word;
+use taking::minus;
+use taking::part;
+use taking::part_length;
+use taking::pointer;
+use taking::tree_need;
 use trees::span;
 use words::block_of;
 use words::start_of;
@@ -24,7 +24,7 @@ ghost use Rattle.model.specs.InPlace.{tailNeed, walkLive, tailPages, inPlace};
 ghost use Rattle.trees.specs.Trees.{Reach};
 ghost use Rattle.plans.specs.Laying.{Laid};
 ghost use Rattle.plans.specs.Onto.{taking, Blocks, onto, Pointers};
-ghost use Rattle.building.specs.Taking.{Took, TreeCount};
+ghost use Rattle.taking.specs.Taking.{Took, TreeCount};
 ghost use Rattle.tails.specs.Stores.{hooks, wordStores, padded};
 
 // The walk to byte n of the tree (h, k, n), the first past its visible bytes, along live pointers: a hole where one of them is null.

@@ -33,10 +33,10 @@ use Rattle.plans.specs.declared.Grown.{Grown}
 use Rattle.plans.specs.Laying.{closing, Laid}
 use Rattle.plans.specs.Onto.{taking, Pointers}
 use Rattle.plans.proofs.Laying as Laying
-use Rattle.building.specs.Taking.{Took, whole}
-use Rattle.building.proofs.Room.{fresh-most}
-use Rattle.building.proofs.WholeTrees.{whole-small}
-use Rattle.building.proofs.Taken as Taken
+use Rattle.taking.specs.Taking.{Took, whole}
+use Rattle.taking.proofs.Room.{fresh-most}
+use Rattle.taking.proofs.WholeTrees.{whole-small}
+use Rattle.taking.proofs.Taken as Taken
 use Rattle.growing.specs.declared.Count.{Count}
 use Rattle.growing.specs.Planned.{PlanLaid}
 use Rattle.growing.proofs.OneStep.{one-step}

@@ -1,8 +1,5 @@
 // The ways of planning a write from the fourth on: tail, shadow inside, shadow with length. The names of arguments are those of `building`.
 use building::build;
-use building::minus;
-use building::place;
-use building::pointer;
 use growing::Count;
 use kinds::height_in;
 use model::Inode;
@@ -16,6 +13,9 @@ use plans::word_on;
 use tails::in_place;
 use tails::tail_pages;
 use tails::walk_live;
+use taking::minus;
+use taking::place;
+use taking::pointer;
 use trees::span;
 use words::block_of;
 use words::low_of;
@@ -33,7 +33,7 @@ ghost use Rattle.model.specs.InPlace.{atBlock, walkLive};
 ghost use Rattle.model.specs.Change.{emptyTail, tail, shadowInside, leafPage, shadowWithLength, chosenWay};
 ghost use Rattle.trees.specs.Trees.{Reach};
 ghost use Rattle.plans.specs.Onto.{taking, onto, Pointers};
-ghost use Rattle.building.specs.Taking.{Took};
+ghost use Rattle.taking.specs.Taking.{Took};
 ghost use Rattle.growing.specs.Planned.{PlanLaid};
 ghost use Rattle.ways.specs.Planning.{Descended, Ready};
 

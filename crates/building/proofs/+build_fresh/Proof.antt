@@ -23,18 +23,18 @@ use Rattle.plans.proofs.link_on.Reads as link-on-reads
 use Rattle.building.proofs.+build_fresh.{statement}
 use Rattle.building.proofs.+build_fresh.Lts-build_fresh as lts
 use Rattle.building.proofs.+build_fresh.Tie.{close}
-use Rattle.building.proofs.Taken as Taken
+use Rattle.taking.proofs.Taken as Taken
 use Rattle.building.proofs.Trees as Trees
 use Rattle.building.proofs.build_fresh.Kinds as kinds
 use Rattle.building.proofs.build_fresh.Reads as build-fresh
-use Rattle.building.proofs.child_touched.Reads as child-touched-reads
-use Rattle.building.proofs.minus.Reads as minus-reads
-use Rattle.building.proofs.part.Reads as part-reads
-use Rattle.building.proofs.place.Reads as place-reads
-use Rattle.building.proofs.pointer.Reads as pointer-reads
-use Rattle.building.proofs.take.Reads as take-reads
-use Rattle.building.proofs.take_data.Reads as take-data-reads
-use Rattle.building.proofs.tree_need.Reads as tree-need-reads
+use Rattle.taking.proofs.child_touched.Reads as child-touched-reads
+use Rattle.taking.proofs.minus.Reads as minus-reads
+use Rattle.taking.proofs.part.Reads as part-reads
+use Rattle.taking.proofs.place.Reads as place-reads
+use Rattle.taking.proofs.pointer.Reads as pointer-reads
+use Rattle.taking.proofs.take.Reads as take-reads
+use Rattle.taking.proofs.take_data.Reads as take-data-reads
+use Rattle.taking.proofs.tree_need.Reads as tree-need-reads
 
 abbrev μ : Measures 5 kinds.ps ℕ
 μ κs a = a .1 .1 .1 .1 .1 .1 .1 .0

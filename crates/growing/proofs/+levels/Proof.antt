@@ -7,7 +7,7 @@ use borrow.Fn.Kinds.{In, Out}
 use borrow.Fn.PlainCycle.{Measures, is, falls, and}
 use Rattle.words.proofs.Widths as Widths
 use Rattle.words.proofs.start_of.Reads as start-of-reads
-use Rattle.building.proofs.take.Reads as take-reads
+use Rattle.taking.proofs.take.Reads as take-reads
 use Rattle.growing.proofs.Growth.{null, no-levels, last-level, few-levels}
 use Rattle.plans.proofs.Onto.{below-small}
 use Rattle.plans.proofs.level_below.Reads as level-below-reads

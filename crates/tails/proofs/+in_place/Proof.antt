@@ -21,9 +21,9 @@ use Rattle.plans.specs.Onto.{onto}
 use Rattle.plans.proofs.Laying as Laying
 use Rattle.plans.proofs.cell_on.Reads as cell-on-reads
 use Rattle.plans.proofs.pair.Reads as pair-reads
-use Rattle.building.proofs.minus.Reads as minus-reads
-use Rattle.building.proofs.part.Reads as part-reads
-use Rattle.building.proofs.part_length.Reads as part-length-reads
+use Rattle.taking.proofs.minus.Reads as minus-reads
+use Rattle.taking.proofs.part.Reads as part-reads
+use Rattle.taking.proofs.part_length.Reads as part-length-reads
 use Rattle.tails.specs.Stores.{hooks, wordStores, padded}
 use Rattle.tails.proofs.Children as Children
 use Rattle.tails.proofs.Padding as Padding

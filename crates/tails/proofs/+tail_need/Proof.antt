@@ -11,11 +11,11 @@ use Rattle.words.proofs.width.Reads as width-reads
 use Rattle.trees.specs.Trees.{Reach}
 use Rattle.trees.proofs.Reaching.{lower, two}
 use Rattle.trees.proofs.span.Reads as span-reads
-use Rattle.building.specs.Taking.{TreeCount}
-use Rattle.building.proofs.WholeTrees.{whole-small}
-use Rattle.building.proofs.minus.Reads as minus-reads
-use Rattle.building.proofs.part_length.Reads as part-length-reads
-use Rattle.building.proofs.tree_need.Reads as tree-need-reads
+use Rattle.taking.specs.Taking.{TreeCount}
+use Rattle.taking.proofs.WholeTrees.{whole-small}
+use Rattle.taking.proofs.minus.Reads as minus-reads
+use Rattle.taking.proofs.part_length.Reads as part-length-reads
+use Rattle.taking.proofs.tree_need.Reads as tree-need-reads
 use Rattle.tails.proofs.Room.{tail-most}
 use Rattle.tails.proofs.Children as Children
 use Rattle.tails.proofs.tail_need.Reads as tail-need

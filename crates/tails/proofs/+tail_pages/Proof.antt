@@ -16,10 +16,10 @@ use Rattle.trees.proofs.span.Reads as span-reads
 use Rattle.model.proofs.Paths.{fresh-quiet}
 use Rattle.plans.specs.Onto.{onto}
 use Rattle.plans.proofs.link_on.Reads as link-on-reads
-use Rattle.building.proofs.Taken as Taken
+use Rattle.taking.proofs.Taken as Taken
 use Rattle.building.proofs.build.Reads as build-reads
-use Rattle.building.proofs.minus.Reads as minus-reads
-use Rattle.building.proofs.part.Reads as part-reads
+use Rattle.taking.proofs.minus.Reads as minus-reads
+use Rattle.taking.proofs.part.Reads as part-reads
 use Rattle.tails.proofs.+tail_pages.{statement}
 use Rattle.tails.proofs.+tail_pages.Lts-tail_pages as lts
 use Rattle.tails.proofs.+tail_pages.Tie.{close}

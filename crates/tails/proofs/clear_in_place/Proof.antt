@@ -8,7 +8,7 @@ use Rattle.model.specs.InPlace.{inPlace}
 use Rattle.trees.proofs.Reaching.{two}
 use Rattle.plans.specs.Onto.{onto}
 use Rattle.plans.proofs.Laying as Laying
-use Rattle.building.proofs.WholeTrees.{whole-small}
+use Rattle.taking.proofs.WholeTrees.{whole-small}
 use Rattle.tails.specs.Stores.{hooks, padded}
 use Rattle.tails.proofs.Padding as Padding
 use Rattle.tails.proofs.Room.{tail-most}

@@ -14,7 +14,7 @@ use Rattle.words.proofs.start_of.Reads as start-of-reads
 use Rattle.trees.proofs.Reaching.{lower}
 use Rattle.trees.proofs.span.Reads as span-reads
 use Rattle.plans.proofs.cell_on.Reads as cell-on-reads
-use Rattle.building.proofs.minus.Reads as minus-reads
+use Rattle.taking.proofs.minus.Reads as minus-reads
 use Rattle.ways.proofs.Descents.{lies, at-data, at-null, at-wide, down}
 use Rattle.ways.proofs.descend.Reads as descend
 use Rattle.ways.proofs.descend.Kinds as kinds

@@ -9,7 +9,7 @@ use Rattle.model.specs.Store.{store, laid}
 use Rattle.model.specs.Change.{leafPage}
 use Rattle.plans.specs.Onto.{onto}
 use Rattle.plans.proofs.Laying.{laid-none, laid-more, length-laid}
-use Rattle.building.proofs.Taken as Taken
+use Rattle.taking.proofs.Taken as Taken
 use Rattle.ways.proofs.take_leaf.Statement.{statement}
 use Rattle.ways.proofs.take_leaf.Tie as tie
 

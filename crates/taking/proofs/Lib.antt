@@ -1,0 +1,6 @@
+-- What the proofs of several functions use: pages laid for fresh blocks (Taken), how many there are at most (Room), words with bytes written into them (Splicing), and trees that
+-- are written from their start (WholeTrees).
+pub mod Taken
+pub mod Room
+pub mod Splicing
+pub mod WholeTrees
