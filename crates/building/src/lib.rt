@@ -21,6 +21,7 @@ ghost use mathlib.Core.Bool.{true};
 ghost use Prim.Native.Nat.{_+_, _*_, _^_, _≤_};
 ghost use lib.ListN.{length};
 ghost use Rattle.model.specs.Fresh.{touched, freshNeed, build};
+ghost use Rattle.model.specs.InPlace.{tailNeed, tailPages};
 ghost use Rattle.trees.specs.Trees.{Reach};
 ghost use Rattle.plans.specs.Onto.{taking, onto, Pointers};
 ghost use Rattle.taking.specs.Taking.{Took};
@@ -136,4 +137,72 @@ pub fn build(
         new,
         c,
     )
+}
+
+// Lays the fresh subtrees of a write at the end, n, of the tree (h, k, n): those under pointers that aren't live and lead to written bytes. Answers how
+// many blocks are taken then.
+pub fn tail_pages(
+    bits: u64,
+    board: &[u64],
+    grown: Grown,
+    free: &[u64],
+    plan: &mut [u64],
+    pages: &mut [u64],
+    base: u64,
+    h: u64,
+    k: u64,
+    n: u64,
+    new: &[u8],
+    c: u64,
+) -> u64
+    requires { ⌜ Reach bits h × Pointers bits (now free) grown × (2 ^ bits * h ≤ length (now pages)) × (base + 2 ^ bits * (c + tailNeed (2 ^ bits) h n (length (now new))) ≤ 2 ^ 32) ⌝ }
+    ensures { λ r. ⌜ Took (2 ^ bits) (now (free .entry)) (now (plan .entry)) base c
+        (tailPages (2 ^ bits) (onto (2 ^ bits) (now (free .entry)) (now (board .entry)) grown) (taking (now (free .entry))) h k n (now (new .entry)) c) (now (plan .exit)) r ⌝ }
+{
+    if n == 0 {
+        return build(
+            bits,
+            board,
+            grown,
+            free,
+            plan,
+            pages,
+            base,
+            h,
+            0,
+            0,
+            0,
+            new,
+            c,
+        );
+    }
+    if h == 0 {
+        return c;
+    }
+    let s = span(bits, h - 1);
+    let w = width(bits);
+    let mut taken = c;
+    let mut j = 0;
+    while j < w {
+        let own = part(new, s, j, n);
+        if own.len() != 0 {
+            let x = link_on(bits, board, grown, free, k, j);
+            taken = tail_pages(
+                bits,
+                board,
+                grown,
+                free,
+                plan,
+                pages,
+                base,
+                h - 1,
+                block_of(bits, x),
+                minus(n, j * s),
+                own,
+                taken,
+            );
+        }
+        j += 1;
+    }
+    taken
 }

@@ -14,7 +14,7 @@ ghost use Rattle.model.specs.Layout.{house, layoutOf};
 ghost use Rattle.model.specs.Calls.{write, setLength};
 ghost use Rattle.kinds.specs.Figures.{Bits};
 ghost use Rattle.plans.specs.Laying.{PlanResult};
-ghost use Rattle.ways.specs.Planning.{Pages};
+ghost use Rattle.shadows.specs.Planning.{Pages};
 ghost use Rattle.planning.specs.Asked.{Stocked};
 
 // Write, where no refusal up to 6 turns it away and there is a byte to write: `free` lists the free blocks, `count` of them.

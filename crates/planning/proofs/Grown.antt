@@ -32,7 +32,7 @@ use Rattle.growing.specs.declared.Count.{Count}
 use Rattle.growing.specs.Planned.{PlanLaid}
 use Rattle.growing.proofs.Growth.{levels-most}
 use Rattle.growing.proofs.OneStep.{step-plan}
-use Rattle.ways.specs.Planning.{Pages, Ready}
+use Rattle.shadows.specs.Planning.{Pages, Ready}
 use Rattle.planning.specs.Asked.{Growable}
 use Rattle.planning.proofs.Growing.{spanned, grown-height}
 

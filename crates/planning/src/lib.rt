@@ -35,7 +35,7 @@ ghost use Rattle.kinds.specs.Figures.{Bits};
 ghost use Rattle.plans.specs.Laying.{Laid};
 ghost use Rattle.plans.specs.Onto.{taking};
 ghost use Rattle.growing.specs.Planned.{PlanLaid};
-ghost use Rattle.ways.specs.Planning.{Pages};
+ghost use Rattle.shadows.specs.Planning.{Pages};
 ghost use Rattle.planning.specs.Asked.{Listed, File, Growable, Asked};
 
 // Lists the blocks from 1 to top - 1 that are not marked, at the front of a table. Answers how many there are.

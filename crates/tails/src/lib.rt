@@ -1,6 +1,5 @@
-// Writing at the end of a file in place: fresh subtrees, and stores to words that exist. The names of arguments are those of `building`; n is both the
-// end of the tree's visible bytes and the place where `new` is written. A block has 2 ^ bits words; `pages` has room for a page on each level.
-use building::build;
+// Writing at the end of a file in place: stores to words that exist. The names of arguments are those of `taking`; n is both the end of the tree's
+// visible bytes and the place where `new` is written. A block has 2 ^ bits words.
 use model::WalkEnd;
 use plans::Grown;
 use plans::cell_on;
@@ -20,11 +19,11 @@ use words::width;
 ghost use mathlib.Core.Path.{_≡_};
 ghost use Prim.Native.Nat.{_+_, _*_, _^_, _≤_, _<_};
 ghost use lib.ListN.{length, replicate};
-ghost use Rattle.model.specs.InPlace.{tailNeed, walkLive, tailPages, inPlace};
+ghost use Rattle.model.specs.InPlace.{tailNeed, walkLive, inPlace};
 ghost use Rattle.trees.specs.Trees.{Reach};
 ghost use Rattle.plans.specs.Laying.{Laid};
-ghost use Rattle.plans.specs.Onto.{taking, Blocks, onto, Pointers};
-ghost use Rattle.taking.specs.Taking.{Took, TreeCount};
+ghost use Rattle.plans.specs.Onto.{Blocks, onto, Pointers};
+ghost use Rattle.taking.specs.Taking.{TreeCount};
 ghost use Rattle.tails.specs.Stores.{hooks, wordStores, padded};
 
 // The walk to byte n of the tree (h, k, n), the first past its visible bytes, along live pointers: a hole where one of them is null.
@@ -86,73 +85,6 @@ fn tail_words(
         j += 1;
     }
     q
-}
-
-// Lays the fresh subtrees under pointers that aren't live and lead to written bytes. Answers how many blocks are taken then.
-pub fn tail_pages(
-    bits: u64,
-    board: &[u64],
-    grown: Grown,
-    free: &[u64],
-    plan: &mut [u64],
-    pages: &mut [u64],
-    base: u64,
-    h: u64,
-    k: u64,
-    n: u64,
-    new: &[u8],
-    c: u64,
-) -> u64
-    requires { ⌜ Reach bits h × Pointers bits (now free) grown × (2 ^ bits * h ≤ length (now pages)) × (base + 2 ^ bits * (c + tailNeed (2 ^ bits) h n (length (now new))) ≤ 2 ^ 32) ⌝ }
-    ensures { λ r. ⌜ Took (2 ^ bits) (now (free .entry)) (now (plan .entry)) base c
-        (tailPages (2 ^ bits) (onto (2 ^ bits) (now (free .entry)) (now (board .entry)) grown) (taking (now (free .entry))) h k n (now (new .entry)) c) (now (plan .exit)) r ⌝ }
-{
-    if n == 0 {
-        return build(
-            bits,
-            board,
-            grown,
-            free,
-            plan,
-            pages,
-            base,
-            h,
-            0,
-            0,
-            0,
-            new,
-            c,
-        );
-    }
-    if h == 0 {
-        return c;
-    }
-    let s = span(bits, h - 1);
-    let w = width(bits);
-    let mut taken = c;
-    let mut j = 0;
-    while j < w {
-        let own = part(new, s, j, n);
-        if own.len() != 0 {
-            let x = link_on(bits, board, grown, free, k, j);
-            taken = tail_pages(
-                bits,
-                board,
-                grown,
-                free,
-                plan,
-                pages,
-                base,
-                h - 1,
-                block_of(bits, x),
-                minus(n, j * s),
-                own,
-                taken,
-            );
-        }
-        j += 1;
-    }
-    taken
 }
 
 // How many fresh blocks l bytes take that are written at the end, n, of a tree of height h.

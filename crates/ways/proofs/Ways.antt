@@ -1,121 +1,66 @@
--- Ways 4 to 6: how many blocks are taken, and that the pairs laid are those of the plan.
+-- Ways 4 to 6: the tail ways, and the choice.
 use mathlib.Core.Path.{_≡_, refl, sym, _∙_}
 use mathlib.Core.Bool.{Bool, true, false, cond, _&&_}
 use mathlib.Core.List.{List, [], _∷_, _++_}
-use Prim.Native.Nat.{ℕ, zero, suc, _+_, _-_, _*_, _/_, _%_, _^_, _≤_, _<_, max}
+use Prim.Native.Nat.{ℕ, zero, suc, _+_, _-_, _*_, _/_, _%_, _^_, _≤_, _<_}
 use native.Mathlib.Omega.{arith}
-use native.Mathlib.Nat.{mul-add, mul-le-mul, mul-le-mul-left}
-use lib.ListN.{length, getD}
+use native.Mathlib.Nat.{mul-le-mul}
+use lib.ListN.{length}
 use lib.Dec.{leb, eqb}
 use lib.Pow.{pow-pos}
 use borrow.Author.Tests.{le-leb, lt-leb}
 use Rattle.model.specs.declared.Inode.{Inode}
 use Rattle.model.specs.declared.Kind.{Kind}
 use Rattle.model.specs.Layout.{Layout, layoutOf}
-use Rattle.model.specs.Tree.{live, span, least}
-use Rattle.model.specs.Board.{greatest}
+use Rattle.model.specs.Tree.{live, least}
 use Rattle.model.specs.Store.{Store, store, laid}
 use Rattle.model.specs.Plan.{Plan, step, plan}
-use Rattle.model.specs.Fresh.{Page, freshNeed, stored, freshPointer, build}
+use Rattle.model.specs.Fresh.{Page, stored, freshPointer, build}
 use Rattle.model.specs.InPlace.{atBlock, walkLive, tailNeed, tailPages, inPlace}
-use Rattle.model.specs.Change.{isTail, emptyTailTo, emptyTail, tail, shadowInside, leafPage, shadowWithLength, chosenWay}
-use Rattle.model.proofs.Spans.{span-mono}
+use Rattle.model.specs.Change.{isTail, emptyTailTo, emptyTail, tail, shadowInside, shadowWithLength, chosenWay}
 use Rattle.model.proofs.Trees.{live-some}
-use Rattle.model.proofs.Paths.{touched-new, fresh-pos}
-use Rattle.model.proofs.Built.{length-build, length-build-null}
+use Rattle.model.proofs.Built.{length-build-null}
 use Rattle.model.proofs.Tailed.{length-tail}
 use Rattle.words.proofs.Widths as Widths
 use Rattle.kinds.specs.Figures.{Bits}
-use Rattle.kinds.proofs.Figures.{words-pos, small-sizes, reach}
 use Rattle.trees.specs.Trees.{Reach}
-use Rattle.trees.proofs.Reaching.{two}
 use Rattle.plans.specs.declared.Grown.{Grown}
 use Rattle.plans.specs.Laying.{closing, Laid}
 use Rattle.plans.specs.Onto.{taking, Pointers}
 use Rattle.plans.proofs.Laying as Laying
-use Rattle.taking.specs.Taking.{Took, whole}
-use Rattle.taking.proofs.Room.{fresh-most}
-use Rattle.taking.proofs.WholeTrees.{whole-small}
+use Rattle.taking.specs.Taking.{Took}
 use Rattle.taking.proofs.Taken as Taken
 use Rattle.growing.specs.declared.Count.{Count}
 use Rattle.growing.specs.Planned.{PlanLaid}
 use Rattle.growing.proofs.OneStep.{one-step}
 use Rattle.tails.specs.Stores.{hooks, padded}
 use Rattle.tails.proofs.Room.{tail-most, place-most}
-use Rattle.ways.specs.declared.Spot.{Spot}
-use Rattle.ways.specs.Planning.{Descended, Ready}
+use Rattle.shadows.specs.Planning.{Ready}
+use Rattle.shadows.proofs.ReadyWrites.{whole-few, place-after, may-take}
 
--- ---- Fresh blocks
+-- ---- A tail
 
--- a tree of a kind's height has fewer blocks than the greatest file has bytes
-whole-few : {k : Kind} {r h : ℕ} → Bits k r → h ≤ layoutOf k .height → whole (2 ^ r) h ≤ 2 ^ 21
-unfolding greatest
-whole-few {k} {r} {h} b l =
-    let g : Layout = layoutOf k in
-    let top : span (g .words) (g .height) ≤ 2 ^ 21 = small-sizes k in
-    omega (arith, whole-small (2 ^ r) (two (reach k b l)) h, rw (b .is) at (span-mono (g .words) (words-pos k) h (g .height) l), rw (b .is) at top)
-
--- so the stores in place are few
+-- the stores in place are few, since a tree has few blocks
 pub few-stores : {kind : Kind} {r h : ℕ} → Bits kind r → h ≤ layoutOf kind .height → (b : List ℕ) (hook : ℕ → ℕ → ℕ → ℕ) (k n : ℕ) (new : List ℕ) (c a : ℕ)
     → length (inPlace (2 ^ r) b hook h k n new c a) ≤ 2 ^ 30
 few-stores {r = r} {h} wide l b hook k n new c a =
     omega (arith, place-most (2 ^ r) (pow-pos r) b hook h k n new c a, mul-le-mul (Widths.most (wide .width)) (whole-few wide l))
 
--- the height in a root word x, by the width
-pub height-low : {k : Kind} {r h : ℕ} (x : ℕ) → Bits k r → x % layoutOf k .words ≤ layoutOf k .height → h ≡ x % 2 ^ r → h ≤ layoutOf k .height
-height-low x b l e = rw (e, ← b .is) l
-
--- the height of the file's tree
-pub root-height : {kind : Kind} {bits : ℕ} {n : Inode} {o : ℕ} {new free pages : List ℕ} {grown : Grown} {base t h : ℕ} → Ready kind bits n o new free pages grown base t
-    → 0 < n .size → h ≡ n .root % 2 ^ bits → h ≤ layoutOf kind .height
-root-height {n = n} ready live e = height-low (n .root) (ready .pages .wide) (ready .height live) e
-
--- the same write, its offset said another way
-pub ready-at : {kind : Kind} {bits : ℕ} {n : Inode} {o o′ : ℕ} {new free pages : List ℕ} {grown : Grown} {base t : ℕ} → o ≡ o′ → Ready kind bits n o new free pages grown base t
-    → Ready kind bits n o′ new free pages grown base t
-ready-at e ready = rw e at ready
-
--- a tree takes at least one block, and so few that the place after their pairs is small
-pub record Some (bits base t t′ : ℕ) : Type 0 where
-  pub low : t < t′
-  pub place : base + 2 ^ bits * t′ ≤ 2 ^ 31
-
--- those of a tree of height h
+-- in a tree of height h
 module _ {kind : Kind} {bits : ℕ} {n : Inode} {o : ℕ} {new free pages : List ℕ} {grown : Grown} {base t : ℕ} (ready : Ready kind bits n o new free pages grown base t)
     {h : ℕ} (l : h ≤ layoutOf kind .height) where
   abbrev W : ℕ
   W = 2 ^ bits
 
-  -- the place after m of them
-  place-after : {m : ℕ} → m ≤ whole W h → base + W * (t + m) ≤ 2 ^ 31
-  place-after {m} few =
-      let most : m ≤ 2 ^ 21 = omega (arith, whole-few (ready .pages .wide) l) in
-      omega (arith, mul-add W t m, mul-le-mul (Widths.most (ready .pages .wide .width)) most, ready .place)
-
-  -- what is asked where m are taken
-  may-take : {m : ℕ} → m ≤ whole W h → Reach bits h × Pointers bits free grown × (W * h ≤ length pages) × (base + W * (t + m) ≤ 2 ^ 32)
-  may-take few = (reach kind (ready .pages .wide) l, ready .pointers, omega (arith, mul-le-mul-left W l, ready .pages .room), omega (arith, place-after few))
-
-  -- what `build` asks, and `tail_pages`
-  pub may-build : (c : List ℕ) (k m o′ : ℕ) → Reach bits h × Pointers bits free grown × (W * h ≤ length pages) × (base + W * (t + freshNeed W c h k m o′ (length new)) ≤ 2 ^ 32)
-  may-build c k m o′ = may-take (fresh-most W c h k m o′ (length new))
-
+  -- what `tail_pages` asks
   pub may-tail : (m : ℕ) → Reach bits h × Pointers bits free grown × (W * h ≤ length pages) × (base + W * (t + tailNeed W h m (length new)) ≤ 2 ^ 32)
-  may-tail m = may-take (tail-most W h m (length new))
-
-  pub some-built : {plan plan′ : List ℕ} {t′ : ℕ} (c : List ℕ) (k m o′ : ℕ) → Took W free plan base t (build W (taking free) c h k m o′ new t) plan′ t′ → Some bits base t t′
-  some-built {t′ = t′} c k m o′ took =
-      let e : t′ ≡ t + freshNeed W c h k m o′ (length new) = omega (arith, took .next, length-build W (pow-pos bits) c (taking free) h k m o′ new t) in
-      record {
-        low = omega (arith, e, fresh-pos W c h k m o′ (length new) (touched-new W h k m o′ (length new) (ready .some)));
-        place = rw e (place-after (fresh-most W c h k m o′ (length new)));
-      }
+  may-tail m = may-take ready l (tail-most W h m (length new))
 
   -- the place after the pages of a tail
   pub tail-place : {plan plan′ : List ℕ} {t′ : ℕ} (c : List ℕ) (k m : ℕ) → Took W free plan base t (tailPages W c (taking free) h k m new t) plan′ t′ → base + W * t′ ≤ 2 ^ 31
   tail-place {t′ = t′} c k m took =
       let e : t′ ≡ t + tailNeed W h m (length new) = omega (arith, took .next, length-tail W (pow-pos bits) c (taking free) h k m new t) in
-      rw e (place-after (tail-most W h m (length new)))
+      rw e (place-after ready l (tail-most W h m (length new)))
 
   -- what `in_place` asks
   pub may-store : (c : List ℕ) (k m a p : ℕ) → W * k + W ≤ 2 ^ 64 → p ≤ 2 ^ 31
@@ -134,12 +79,6 @@ module _ {kind : Kind} {bits : ℕ} {n : Inode} {o : ℕ} {new free pages : List
   -- the place after its stores
   pub store-place : {plan plan′ : List ℕ} {p q : ℕ} (c : List ℕ) (k m a : ℕ) → p ≤ 2 ^ 31 → Laid plan p (inPlace W c (hooks W free) h k m new t a) plan′ q → q ≤ 2 ^ 32
   store-place c k m a place others = omega (arith, others .next, few-stores (ready .pages .wide) l c (hooks W free) k m new t a)
-
--- the same plan, written another way
-pub same-plan : {slice slice′ : List ℕ} {p : ℕ} {x y : Plan} {r : Count} → x ≡ y → PlanLaid slice p x slice′ r → PlanLaid slice p y slice′ r
-same-plan e l = rw (← e) l
-
--- ---- The plan of each way
 
 tail-live : (g : Layout) (fresh : ℕ → ℕ) (c : List ℕ) (n : Inode) (s o : ℕ) (new : List ℕ) (t : ℕ) → 0 < s →
     let W : ℕ = g .words in
@@ -173,25 +112,11 @@ module _ (g : Layout) {W : ℕ} (is : g .words ≡ W) (c : List ℕ) (n : Inode)
         rw (tail-live g (taking free) c n (n .size) (n .size) new t live, is, ← eh, ← ek, ← took .next)
         (one-step (n .at + 1) (n .size + length new) t′ (Laying.more (Taken.laid-pages took) (rw eq at others)) (rw ep at l) refl)
 
-    -- shadow inside; v is the pointer to the fresh tree, x the word that stood where it goes
-    pub inside-laid : {new plan₂ : List ℕ} {o x low v r : ℕ} {spot : Spot} → Descended W c h k (n .size) o new (n .at) spot
-        → Took W free plan base t (build W (taking free) c (spot .height) (spot .block) (spot .left) (spot .offset) new t) plan₁ t′
-        → x ≡ getD c (spot .at) 0 → low ≡ x % W → v ≡ W * taking free (t′ - 1) → Laid plan₁ q (closing (q - p) (store (spot .at) (v + low))) plan₂ r
-        → PlanLaid plan (base + W * t) (shadowInside g (taking free) c n o new t) plan₂ (record { pairs = r; taken = t′ })
-    unfolding shadowInside
-    inside-laid {low = low} {v} {spot = spot} d took ex el ev l =
-        rw (is, ← eh, ← ek, d .is (taking free) t, ← took .next, ← ex, ← el, ← ev) (one-step (spot .at) (v + low) t′ (Taken.laid-pages took) (rw (eq, ep) at l) refl)
-
-  -- shadow with length; v is the pointer to the fresh tree, u that to the leaf, behind the first t₁ blocks
-  pub with-length-laid : (o : ℕ) (new : List ℕ) {plan₂ plan₃ : List ℕ} {h k m t₁ v u r : ℕ} → h ≡ n .root % W → k ≡ n .root / W
-      → Took W free plan base t (build W (taking free) c h k (n .size) o new t) plan₁ t₁ → v ≡ W * taking free (t₁ - 1) → m ≡ max (n .size) (o + length new)
-      → Took W free plan₁ base t₁ (leafPage W c (n .at) (v + h) m ∷ []) plan₂ t′ → u ≡ W * taking free t₁ → Laid plan₂ q (closing (q - p) (store (n .pointer) u)) plan₃ r
-      → PlanLaid plan (base + W * t) (shadowWithLength g (taking free) c n o new t) plan₃ (record { pairs = r; taken = t′ })
-  unfolding shadowWithLength
-  with-length-laid o new {t₁ = t₁} {u = u} eh ek took ev em copy eu l =
-      rw (is, ← eh, ← ek, ← took .next, ← em, ← ev, ← eu) (one-step (n .pointer) u (t₁ + 1) (Taken.laid-pages (Taken.more took copy)) (rw (eq, ep) at l) (copy .next))
-
 -- ---- The choice
+
+-- the same plan, written another way
+pub same-plan : {slice slice′ : List ℕ} {p : ℕ} {x y : Plan} {r : Count} → x ≡ y → PlanLaid slice p x slice′ r → PlanLaid slice p y slice′ r
+same-plan e l = rw (← e) l
 
 module _ (g : Layout) (c : List ℕ) (n : Inode) (o : ℕ) (new free : List ℕ) (t : ℕ) where
   pub chosen-empty : n .size ≡ 0 → emptyTail g (taking free) c n o new t ≡ chosenWay g (taking free) c n o new t

@@ -3,7 +3,7 @@ use native.Mathlib.Omega.{arith}
 use borrow.Author.Needs.{needs}
 use Rattle.model.specs.Layout.{layoutOf}
 use Rattle.kinds.proofs.Figures.{reach}
-use Rattle.ways.proofs.Ways.{height-low}
+use Rattle.shadows.proofs.ReadyWrites.{height-low}
 use Rattle.planning.proofs.Growing as Growing
 use Rattle.planning.proofs.grows.Statement.{statement}
 use Rattle.planning.proofs.grows.Tie as tie

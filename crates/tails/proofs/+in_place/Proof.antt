@@ -22,6 +22,7 @@ use Rattle.plans.proofs.Laying as Laying
 use Rattle.plans.proofs.cell_on.Reads as cell-on-reads
 use Rattle.plans.proofs.pair.Reads as pair-reads
 use Rattle.taking.proofs.minus.Reads as minus-reads
+use Rattle.taking.proofs.Tails as Tails
 use Rattle.taking.proofs.part.Reads as part-reads
 use Rattle.taking.proofs.part_length.Reads as part-length-reads
 use Rattle.tails.specs.Stores.{hooks, wordStores, padded}
@@ -141,7 +142,7 @@ module _ (t : ℕ) where
   start-of-requires c κs = let s = start (c .before .before .before) in (search needs, omega (arith, s .pre .1 .1, Widths.least (s .pre .1 .0 .width)))
 
   loop-holds : N lts.Need-loop-holds
-  loop-holds c = let a = start (c .before .before .before .before) .args in (omega arith, omega (arith, Children.before-start (2 ^ a .bits) (a .h - 1) (a .n) (a .l)), Children.stores-start)
+  loop-holds c = let a = start (c .before .before .before .before) .args in (omega arith, omega (arith, Tails.before-start (2 ^ a .bits) (a .h - 1) (a .n) (a .l)), Children.stores-start)
 
   part-length-requires : N lts.Need-part-length-requires
   part-length-requires c κs = let w = c .before .before .before in (omega (arith, w .before .span .ensures .high), omega (arith, w .width .ensures .most))
@@ -167,7 +168,7 @@ module _ (t : ℕ) where
       left ≡ s .args .n - l .loop .j * l .before .before .before .span .result → own ≡ partLength (l .before .before .before .span .result) (l .loop .j) (s .args .n) (s .args .l)
       → m ≡ tailNeed (2 ^ s .args .bits) (s .args .h - 1) left own → l .loop .taken + m ≡ s .args .c + tailBefore (2 ^ s .args .bits) (s .args .h - 1) (s .args .n) (s .args .l) (l .loop .j + 1)
   taken-next i el eo em = let l = i .before in let s = start (tall l .before) in
-      omega (arith, l .loop .inv .1, Children.before-more (2 ^ s .args .bits) (s .args .h - 1) (s .args .n) (s .args .l) (l .loop .j) (l .before .before .before .span .ensures .is) el eo em)
+      omega (arith, l .loop .inv .1, Tails.before-more (2 ^ s .args .bits) (s .args .h - 1) (s .args .n) (s .args .l) (l .loop .j) (l .before .before .before .span .ensures .is) el eo em)
 
   -- it is among all that is taken
   taken-small : (i : N lts.In-loop) → let l = i .before in let s = start (tall l .before) in
@@ -175,8 +176,8 @@ module _ (t : ℕ) where
   taken-small i = let l = i .before in let v = tall l in let s = start (v .before) in let W = 2 ^ s .args .bits in
       omega (
         arith,
-        Children.before-within W (s .args .h - 1) (s .args .n) (s .args .l) (l .loop .j) (less i),
-        Children.need-tree W (s .args .h) (s .args .n) (s .args .l) (v .if4 .left) (v .before .before .if1 .left),
+        Tails.before-within W (s .args .h - 1) (s .args .n) (s .args .l) (l .loop .j) (less i),
+        Tails.need-tree W (s .args .h) (s .args .n) (s .args .l) (v .if4 .left) (v .before .before .if1 .left),
         s .pre .1 .4,
       )
 
@@ -231,7 +232,7 @@ module _ (t : ℕ) where
       ))
       (λ w. rw (w .1, w .2, w .3) (
         omega arith,
-        omega (arith, taken-next i refl (p .part-length .ensures) (sym (Children.need-empty (2 ^ a .bits) (a .h - 1) _ (p .part-length .result) (w .0 .left)))),
+        omega (arith, taken-next i refl (p .part-length .ensures) (sym (Tails.need-empty (2 ^ a .bits) (a .h - 1) _ (p .part-length .result) (w .0 .left)))),
         Padding.skip (a .l) (a .new .now) (s .pre .1 .3) (l .loop .inv .2) size (p .part-length .ensures) (w .0 .left),
       ))
       (c .if5 .came)

@@ -13,11 +13,11 @@ use Rattle.trees.proofs.Reaching.{lower, two}
 use Rattle.trees.proofs.span.Reads as span-reads
 use Rattle.taking.specs.Taking.{TreeCount}
 use Rattle.taking.proofs.WholeTrees.{whole-small}
+use Rattle.taking.proofs.Tails as Tails
 use Rattle.taking.proofs.minus.Reads as minus-reads
 use Rattle.taking.proofs.part_length.Reads as part-length-reads
 use Rattle.taking.proofs.tree_need.Reads as tree-need-reads
 use Rattle.tails.proofs.Room.{tail-most}
-use Rattle.tails.proofs.Children as Children
 use Rattle.tails.proofs.tail_need.Reads as tail-need
 use Rattle.tails.proofs.tail_need.Kinds as kinds
 use Rattle.tails.proofs.+tail_need.Lts-tail_need as lts
@@ -67,24 +67,24 @@ module _ (t : ℕ) where
   start c = c .before .before .before .before .before .before
 
   returns : N lts.Need-returns
-  returns c = let s = c .before in needed (s .args .n) (s .args .l) (s .pre .1) (sym (Children.need-empty (2 ^ s .args .bits) (s .args .h) (s .args .n) (s .args .l) (c .if1 .taken)))
+  returns c = let s = c .before in needed (s .args .n) (s .args .l) (s .pre .1) (sym (Tails.need-empty (2 ^ s .args .bits) (s .args .h) (s .args .n) (s .args .l) (c .if1 .taken)))
 
   tree-need-requires : N lts.Need-tree-need-requires
   tree-need-requires c κs = c .before .before .pre .1
 
   returns-2 : N lts.Need-returns-2
   returns-2 c = let d = c .before in let s = d .before .before in
-      needed (s .args .n) (s .args .l) (s .pre .1) (c .tree-need .ensures .is ∙ sym (Children.need-dead (2 ^ s .args .bits) (s .args .h) (s .args .n) (s .args .l) (d .if2 .taken)))
+      needed (s .args .n) (s .args .l) (s .pre .1) (c .tree-need .ensures .is ∙ sym (Tails.need-dead (2 ^ s .args .bits) (s .args .h) (s .args .n) (s .args .l) (d .if2 .taken)))
 
   returns-3 : N lts.Need-returns-3
   returns-3 c = let s = c .before .before .before in
-      needed (s .args .n) (s .args .l) (s .pre .1) (sym (Children.need-data (2 ^ s .args .bits) (s .args .h) (s .args .n) (s .args .l) (c .if3 .taken) (c .before .if2 .left)))
+      needed (s .args .n) (s .args .l) (s .pre .1) (sym (Tails.need-data (2 ^ s .args .bits) (s .args .h) (s .args .n) (s .args .l) (c .if3 .taken) (c .before .if2 .left)))
 
   span-requires : N lts.Need-span-requires
   span-requires c κs = lower (c .before .before .before .pre .1)
 
   loop-holds : N lts.Need-loop-holds
-  loop-holds c = (omega arith, Children.before-start _ _ _ _)
+  loop-holds c = (omega arith, Tails.before-start _ _ _ _)
 
   mul-minus : N lts.Need-mul-minus
   mul-minus c = omega (arith, mul-le-mul (c .loop-test .taken) (c .before .before .before .span .ensures .high))
@@ -99,7 +99,7 @@ module _ (t : ℕ) where
   next : (c : N lts.After-tail-need) → let l = c .before .before .before .before in let s = start l in
       tailBefore (2 ^ s .args .bits) (s .args .h - 1) (s .args .n) (s .args .l) (l .loop .j) + c .tail-need .result ≡ tailBefore (2 ^ s .args .bits) (s .args .h - 1) (s .args .n) (s .args .l) (l .loop .j + 1)
   next c = let l = c .before .before .before .before in let s = start l in
-      Children.before-more (2 ^ s .args .bits) (s .args .h - 1) (s .args .n) (s .args .l) (l .loop .j) (l .before .before .span .ensures .is) (c .before .before .minus .ensures) (c .before .part-length .ensures) (c .tail-need .ensures .is)
+      Tails.before-more (2 ^ s .args .bits) (s .args .h - 1) (s .args .n) (s .args .l) (l .loop .j) (l .before .before .span .ensures .is) (c .before .before .minus .ensures) (c .before .part-length .ensures) (c .tail-need .ensures .is)
 
   -- all that is taken is a word
   small : (c : N lts.After-tail-need) → let l = c .before .before .before .before in l .loop .count + c .tail-need .result < 134217728
@@ -112,8 +112,8 @@ module _ (t : ℕ) where
         arith,
         l .loop .inv .1,
         next c,
-        Children.before-within W (s .args .h - 1) (s .args .n) (s .args .l) (l .loop .j) less,
-        Children.need-tree W (s .args .h) (s .args .n) (s .args .l) (l .before .before .before .if3 .left) (l .before .before .before .before .if2 .left),
+        Tails.before-within W (s .args .h - 1) (s .args .n) (s .args .l) (l .loop .j) less,
+        Tails.need-tree W (s .args .h) (s .args .n) (s .args .l) (l .before .before .before .if3 .left) (l .before .before .before .before .if2 .left),
         tail-most W (s .args .h) (s .args .n) (s .args .l),
         whole-small W (two (s .pre .1)) (s .args .h),
         s .pre .1 .spans,
@@ -131,7 +131,7 @@ module _ (t : ℕ) where
       let s = start l in
       let all : l .loop .j ≡ 2 ^ s .args .bits = omega (arith, l .before .width .ensures .is) in
       needed (s .args .n) (s .args .l) (s .pre .1) (
-      rw all at (l .loop .inv .1) ∙ sym (Children.need-tree (2 ^ s .args .bits) (s .args .h) (s .args .n) (s .args .l) (l .before .before .before .if3 .left) (l .before .before .before .before .if2 .left))
+      rw all at (l .loop .inv .1) ∙ sym (Tails.need-tree (2 ^ s .args .bits) (s .args .h) (s .args .n) (s .args .l) (l .before .before .before .if3 .left) (l .before .before .before .before .if2 .left))
       )
 
 pub +tail-need-spec : {M : Type 1} → statement M

@@ -8,6 +8,7 @@ use Rattle.words.proofs.Widths as Widths
 use Rattle.kinds.proofs.Figures.{small-sizes}
 use Rattle.plans.specs.Onto.{onto}
 use Rattle.tails.proofs.Padding.{padded-all}
+use Rattle.shadows.proofs.ReadyWrites as ReadyWrites
 use Rattle.ways.proofs.Ways as Ways
 use Rattle.ways.proofs.append.Statement.{statement}
 use Rattle.ways.proofs.append.Tie as tie
@@ -30,7 +31,7 @@ abbrev behind : tie.After-place2 → tie.After-place
 behind c = c .before .before .before .before .before
 
 low : (c : tie.After-low-of) → c .low-of .result ≤ layoutOf (start c .args .kind) .height
-low c = let s = start c in Ways.root-height (s .pre .1) (s .pre .0) (c .low-of .ensures)
+low c = let s = start c in ReadyWrites.root-height (s .pre .1) (s .pre .0) (c .low-of .ensures)
 
 tail-pages-requires : tie.Need-tail-pages-requires
 tail-pages-requires c κs = let h = c .before .before .before in let s = start h in Ways.may-tail (s .pre .1) (low h) (s .args .inode .size)

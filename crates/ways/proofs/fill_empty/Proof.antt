@@ -9,6 +9,7 @@ use Rattle.model.specs.Layout.{layoutOf}
 use Rattle.model.proofs.Spans.{least-within}
 use Rattle.kinds.proofs.Figures.{low-height, small-sizes}
 use Rattle.plans.specs.Onto.{onto}
+use Rattle.shadows.proofs.ReadyWrites as ReadyWrites
 use Rattle.ways.proofs.Ways as Ways
 use Rattle.ways.proofs.fill_empty.Statement.{statement}
 use Rattle.ways.proofs.fill_empty.Tie as tie
@@ -41,10 +42,10 @@ low : (c : tie.After-height-in) → c .height-in .result ≤ layoutOf (start c .
 low c = let s = start c in let g = layoutOf (s .args .kind) in omega (arith, c .height-in .ensures, least-within (g .words) (positive s) (g .height) (s .args .o + length (s .args .new .now)))
 
 build-requires : tie.Need-build-requires
-build-requires c κs = let h = c .before .before in let s = start h in Ways.may-build (s .pre) (low h) (seen s) 0 0 (s .args .o)
+build-requires c κs = let h = c .before .before in let s = start h in ReadyWrites.may-build (s .pre) (low h) (seen s) 0 0 (s .args .o)
 
-some : (c : tie.After-build) → let a = start (high c) .args in Ways.Some (a .bits) (a .base) (a .c) (c .build .result)
-some c = let s = start (high c) in Ways.some-built (s .pre) (low (high c)) (seen s) 0 0 (s .args .o) (c .build .ensures)
+some : (c : tie.After-build) → let a = start (high c) .args in ReadyWrites.Some (a .bits) (a .base) (a .c) (c .build .result)
+some c = let s = start (high c) in ReadyWrites.some-built (s .pre) (low (high c)) (seen s) 0 0 (s .args .o) (c .build .ensures)
 
 place-requires : tie.Need-place-requires
 place-requires c κs = let b = c .before .before .before .before in (start (high b) .pre .pages .wide .width, omega (arith, some b .place))

@@ -12,6 +12,7 @@ use Rattle.model.specs.InPlace.{atBlock, walkLive}
 use Rattle.model.proofs.Cases.{true-left}
 use Rattle.kinds.proofs.Figures.{reach, small-sizes}
 use Rattle.plans.specs.Onto.{onto}
+use Rattle.shadows.proofs.ReadyWrites as ReadyWrites
 use Rattle.ways.proofs.Ways as Ways
 use Rattle.ways.proofs.way.Statement.{statement}
 use Rattle.ways.proofs.way.Tie as tie
@@ -36,7 +37,7 @@ live : (c : tie.Else1) → 0 < start c .args .inode .size
 live c = omega (arith, c .if1 .left)
 
 is-tail-requires : tie.Need-is-tail-requires
-is-tail-requires c κs = let s = start c in (reach (s .args .kind) (s .pre .pages .wide) (Ways.root-height (s .pre) (live c) refl), s .pre .pointers)
+is-tail-requires c κs = let s = start c in (reach (s .args .kind) (s .pre .pages .wide) (ReadyWrites.root-height (s .pre) (live c) refl), s .pre .pointers)
 
 -- the test by the layout's words
 tested : (c : tie.After-is-tail) → let s = start (c .before) in let n = s .args .inode in let W = layoutOf (s .args .kind) .words in
@@ -48,7 +49,7 @@ at-size : (c : tie.Then2) → let a = start (c .before .before) .args in a .o �
 at-size c = eqb-true _ _ (true-left _ _ (sym (c .before .is-tail .ensures) ∙ c .if2 .taken))
 
 append-requires : tie.Need-append-requires
-append-requires c κs = let t = c .before .before in let e = t .before .before in (live e, Ways.ready-at (at-size t) (start e .pre))
+append-requires c κs = let t = c .before .before in let e = t .before .before in (live e, ReadyWrites.ready-at (at-size t) (start e .pre))
 
 returns-2 : tie.Need-returns-2
 returns-2 c =

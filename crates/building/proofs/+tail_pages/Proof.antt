@@ -17,15 +17,16 @@ use Rattle.model.proofs.Paths.{fresh-quiet}
 use Rattle.plans.specs.Onto.{onto}
 use Rattle.plans.proofs.link_on.Reads as link-on-reads
 use Rattle.taking.proofs.Taken as Taken
+use Rattle.taking.proofs.Tails as Tails
 use Rattle.building.proofs.build.Reads as build-reads
 use Rattle.taking.proofs.minus.Reads as minus-reads
 use Rattle.taking.proofs.part.Reads as part-reads
-use Rattle.tails.proofs.+tail_pages.{statement}
-use Rattle.tails.proofs.+tail_pages.Lts-tail_pages as lts
-use Rattle.tails.proofs.+tail_pages.Tie.{close}
-use Rattle.tails.proofs.Children as Children
-use Rattle.tails.proofs.tail_pages.Kinds as kinds
-use Rattle.tails.proofs.tail_pages.Reads as tail-pages
+use Rattle.building.proofs.+tail_pages.{statement}
+use Rattle.building.proofs.+tail_pages.Lts-tail_pages as lts
+use Rattle.building.proofs.+tail_pages.Tie.{close}
+use Rattle.building.proofs.TailPages as TailPages
+use Rattle.building.proofs.tail_pages.Kinds as kinds
+use Rattle.building.proofs.tail_pages.Reads as tail-pages
 
 abbrev μ : Measures 5 kinds.ps ℕ
 μ κs a = a .1 .1 .1 .1 .1 .1 .1 .0
@@ -58,7 +59,7 @@ known t = (
 
 abbrev Inv-loop : lts.InvT-loop
 Inv-loop bits board grown free plan₀ pages₀ base h k n new c s w taken₀ j₀ plan pages taken j =
-    (j ≤ w) × (length pages ≡ length pages₀) × Children.Paged (2 ^ bits) (onto (2 ^ bits) free board grown) free (h - 1) k n new c base j plan₀ plan taken
+    (j ≤ w) × (length pages ≡ length pages₀) × TailPages.Paged (2 ^ bits) (onto (2 ^ bits) free board grown) free (h - 1) k n new c base j plan₀ plan taken
 
 abbrev μ-loop : lts.MeasureT-loop
 μ-loop bits board grown free plan₀ pages₀ base h k n new c s w taken₀ j₀ plan pages taken j = w - j
@@ -72,22 +73,22 @@ module _ (t : ℕ) where
     s .pre .1 .0,
     s .pre .1 .1,
     s .pre .1 .2,
-    rw (fresh-quiet (2 ^ a .bits) (onto (2 ^ a .bits) (a .free .now) (a .board .now) (a .grown)) (a .h) 0 0 0 (length (a .new .now)) (inl refl), ← Children.need-dead (2 ^ a .bits) (a .h) (a .n) (length (a .new .now)) (c .before .before .if1 .taken)) (s .pre .1 .3),
+    rw (fresh-quiet (2 ^ a .bits) (onto (2 ^ a .bits) (a .free .now) (a .board .now) (a .grown)) (a .h) 0 0 0 (length (a .new .now)) (inl refl), ← Tails.need-dead (2 ^ a .bits) (a .h) (a .n) (length (a .new .now)) (c .before .before .if1 .taken)) (s .pre .1 .3),
   )
 
   returns : N lts.Need-returns
   returns c = let u = c .before .before .before .before .before .before .before in let a = u .before .before .before .before .before .before .args in
-      Children.took-dead (2 ^ a .bits) (onto (2 ^ a .bits) (a .free .now) (a .board .now) (a .grown)) (a .free .now) (a .h) (a .k) (a .n) (a .new .now) (u .if1 .taken) (c .before .before .before .before .build .ensures)
+      TailPages.took-dead (2 ^ a .bits) (onto (2 ^ a .bits) (a .free .now) (a .board .now) (a .grown)) (a .free .now) (a .h) (a .k) (a .n) (a .new .now) (u .if1 .taken) (c .before .before .before .before .build .ensures)
 
   returns-2 : N lts.Need-returns-2
   returns-2 c = let a = c .before .before .before .before .before .before .before .args in
-      Children.took-leaf (2 ^ a .bits) (onto (2 ^ a .bits) (a .free .now) (a .board .now) (a .grown)) (a .free .now) (a .h) (a .k) (a .n) (a .new .now) (c .if2 .taken) (c .before .if1 .left)
+      TailPages.took-leaf (2 ^ a .bits) (onto (2 ^ a .bits) (a .free .now) (a .board .now) (a .grown)) (a .free .now) (a .h) (a .k) (a .n) (a .new .now) (c .if2 .taken) (c .before .if1 .left)
 
   span-requires : N lts.Need-span-requires
   span-requires c κs = lower (c .before .before .before .before .before .before .before .pre .1 .0)
 
   loop-holds : N lts.Need-loop-holds
-  loop-holds c = (omega arith, refl, Children.pages-start (pow-pos _))
+  loop-holds c = (omega arith, refl, TailPages.pages-start (pow-pos _))
 
   part-requires : N lts.Need-part-requires
   part-requires c κs = (omega (arith, c .before .before .before .span .ensures .high), omega (arith, c .before .before .width .ensures .most))
@@ -98,8 +99,8 @@ module _ (t : ℕ) where
   tail-pages-requires : N lts.Need-tail-pages-requires
   tail-pages-requires c κs = let u = c .before .before .before .before .before .before in let l = u .before .before in let v = l .before .before .before in
       let s = v .before .before .before .before .before .before .before in let a = s .args in let W = 2 ^ a .bits in
-      let fits = Children.pages-room (pow-pos (a .bits)) (l .loop .inv .2) (l .before .before .span .ensures .is) (u .part .ensures) (omega (arith, u .before .loop-test .taken, l .before .width .ensures .is)) (c .minus .ensures) in
-      let need = Children.need-tree W (a .h) (a .n) (length (a .new .now)) (v .if2 .left) (v .before .if1 .left) in
+      let fits = TailPages.pages-room (pow-pos (a .bits)) (l .loop .inv .2) (l .before .before .span .ensures .is) (u .part .ensures) (omega (arith, u .before .loop-test .taken, l .before .width .ensures .is)) (c .minus .ensures) in
+      let need = Tails.need-tree W (a .h) (a .n) (length (a .new .now)) (v .if2 .left) (v .before .if1 .left) in
       let low : a .h - 1 ≤ a .h = omega arith in
       (omega (arith, s .pre .0), (lower (s .pre .1 .0), s .pre .1 .1, omega (arith, s .pre .1 .2, l .loop .inv .1, mul-le-mul-left W low), omega (arith, mul-le-mul-left W fits, rw need at (s .pre .1 .3))))
 
@@ -110,9 +111,9 @@ module _ (t : ℕ) where
       (λ w. rw (w .11, w .12, w .13) (
         omega arith,
         w .6 .kept .1 .1 .1 .1 .1 .0 ∙ l .loop .inv .1,
-        Children.pages-step pos (l .loop .inv .2) size own (w .1 .ensures) (w .4 .ensures) (w .5 .ensures) (w .6 .ensures),
+        TailPages.pages-step pos (l .loop .inv .2) size own (w .1 .ensures) (w .4 .ensures) (w .5 .ensures) (w .6 .ensures),
       ))
-      (λ w. rw (w .1, w .2, w .3) (omega arith, l .loop .inv .1, Children.pages-skip pos (l .loop .inv .2) size own (w .0 .left)))
+      (λ w. rw (w .1, w .2, w .3) (omega arith, l .loop .inv .1, TailPages.pages-skip pos (l .loop .inv .2) size own (w .0 .left)))
       (c .if3 .came)
 
   same-length-3 : N lts.Need-same-length-3
@@ -123,7 +124,7 @@ module _ (t : ℕ) where
 
   returns-3 : N lts.Need-returns-3
   returns-3 c = let l = c .before in let v = l .before .before .before in let a = v .before .before .before .before .before .before .before .args in
-      Children.took-tree (2 ^ a .bits) (onto (2 ^ a .bits) (a .free .now) (a .board .now) (a .grown)) (a .free .now) (a .h) (a .k) (a .n) (a .new .now)
+      TailPages.took-tree (2 ^ a .bits) (onto (2 ^ a .bits) (a .free .now) (a .board .now) (a .grown)) (a .free .now) (a .h) (a .k) (a .n) (a .new .now)
       (v .if2 .left) (v .before .if1 .left) (omega (arith, l .before .width .ensures .is)) (l .loop .inv .2)
 
 pub +tail-pages-spec : {M : Type 1} → statement M

@@ -10,8 +10,8 @@ use Rattle.model.specs.Change.{leafPage}
 use Rattle.plans.specs.Onto.{onto}
 use Rattle.plans.proofs.Laying.{laid-none, laid-more, length-laid}
 use Rattle.taking.proofs.Taken as Taken
-use Rattle.ways.proofs.take_leaf.Statement.{statement}
-use Rattle.ways.proofs.take_leaf.Tie as tie
+use Rattle.shadows.proofs.take_leaf.Statement.{statement}
+use Rattle.shadows.proofs.take_leaf.Tie as tie
 
 abbrev Inv-loop : tie.InvT-loop
 Inv-loop bits board grown free plan₀ base at root size c p to w j₀ plan j =

@@ -7,8 +7,8 @@ use native.Mathlib.Nat.{mod-lt}
 use lib.Pow.{pow-pos}
 use Rattle.words.proofs.Widths as Widths
 use Rattle.model.specs.Change.{replaced, copiedLeaf, leafPage}
-use Rattle.ways.proofs.leaf_word.Statement.{statement}
-use Rattle.ways.proofs.leaf_word.Tie as tie
+use Rattle.shadows.proofs.leaf_word.Statement.{statement}
+use Rattle.shadows.proofs.leaf_word.Tie as tie
 
 returns : tie.Need-returns
 unfolding leafPage copiedLeaf replaced

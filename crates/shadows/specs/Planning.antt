@@ -13,7 +13,7 @@ use Rattle.model.specs.Change.{descend}
 use Rattle.kinds.specs.Figures.{Bits}
 use Rattle.plans.specs.declared.Grown.{Grown}
 use Rattle.plans.specs.Onto.{Pointers}
-use Rattle.ways.specs.declared.Spot.{Spot}
+use Rattle.shadows.specs.declared.Spot.{Spot}
 
 -- where a descent ends: the tree that is built anew, and the address of its pointer
 pub record Descended (W : ℕ) (c : List ℕ) (h k n o : ℕ) (new : List ℕ) (a : ℕ) (r : Spot) : Type 0 where

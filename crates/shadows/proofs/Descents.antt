@@ -11,8 +11,8 @@ use Rattle.model.specs.Fresh.{build}
 use Rattle.model.specs.Change.{descend}
 use Rattle.model.proofs.Spans.{Child, child}
 use Rattle.model.proofs.Descent.{descend-on, descend-stop}
-use Rattle.ways.specs.declared.Spot.{Spot}
-use Rattle.ways.specs.Planning.{Descended}
+use Rattle.shadows.specs.declared.Spot.{Spot}
+use Rattle.shadows.specs.Planning.{Descended}
 
 -- ---- One tree
 

@@ -10,9 +10,10 @@ use Rattle.model.specs.Layout.{layoutOf}
 use Rattle.words.proofs.Widths as Widths
 use Rattle.kinds.proofs.Figures.{low-height, small-sizes}
 use Rattle.plans.specs.Onto.{onto}
-use Rattle.ways.proofs.Ways as Ways
-use Rattle.ways.proofs.shadow_with_length.Statement.{statement}
-use Rattle.ways.proofs.shadow_with_length.Tie as tie
+use Rattle.shadows.proofs.ReadyWrites as ReadyWrites
+use Rattle.shadows.proofs.Shadows as Shadows
+use Rattle.shadows.proofs.shadow_with_length.Statement.{statement}
+use Rattle.shadows.proofs.shadow_with_length.Tie as tie
 
 -- the board that is read
 abbrev seen : tie.Start → List ℕ
@@ -32,17 +33,17 @@ abbrev hooked : tie.After-take-leaf → tie.After-pointer
 hooked c = c .before .before
 
 low : (c : tie.After-low-of) → c .low-of .result ≤ layoutOf (start c .args .kind) .height
-low c = let s = start c in Ways.root-height (s .pre .1) (s .pre .0) (c .low-of .ensures)
+low c = let s = start c in ReadyWrites.root-height (s .pre .1) (s .pre .0) (c .low-of .ensures)
 
 add-e : tie.Need-add-e
 add-e c = let s = start (c .before) in omega (arith, s .pre .1 .end, small-sizes (s .args .kind))
 
 build-requires : tie.Need-build-requires
-build-requires c κs = let k = c .before .before in let s = start (k .before) in Ways.may-build (s .pre .1) (low (k .before)) (seen s) (k .block-of .result) (s .args .inode .size) (s .args .o)
+build-requires c κs = let k = c .before .before in let s = start (k .before) in ReadyWrites.may-build (s .pre .1) (low (k .before)) (seen s) (k .block-of .result) (s .args .inode .size) (s .args .o)
 
-some : (c : tie.After-build) → let a = start (high c) .args in Ways.Some (a .bits) (a .base) (a .c) (c .build .result)
+some : (c : tie.After-build) → let a = start (high c) .args in ReadyWrites.Some (a .bits) (a .base) (a .c) (c .build .result)
 some c = let s = start (high c) in
-    Ways.some-built (s .pre .1) (low (high c)) (seen s) (c .before .before .before .block-of .result) (s .args .inode .size) (s .args .o) (c .build .ensures)
+    ReadyWrites.some-built (s .pre .1) (low (high c)) (seen s) (c .before .before .before .block-of .result) (s .args .inode .size) (s .args .o) (c .build .ensures)
 
 -- the place after the leaf's pairs
 place : (c : tie.After-build) → let a = start (high c) .args in a .base + 2 ^ a .bits * (c .build .result + 1) ≤ 2 ^ 32
@@ -84,7 +85,7 @@ returns c =
     let b = built p in
     let s = start (high b) in
     let a = s .args in
-    Ways.with-length-laid (layoutOf (a .kind)) (s .pre .1 .pages .wide .is) (seen s) (a .inode) (f .before .place .ensures) (f .place2 .ensures) (a .o) (a .new .now)
+    Shadows.with-length-laid (layoutOf (a .kind)) (s .pre .1 .pages .wide .is) (seen s) (a .inode) (f .before .place .ensures) (f .place2 .ensures) (a .o) (a .new .now)
     (high b .low-of .ensures) (b .before .before .before .block-of .ensures) (b .build .ensures) (p .pointer .ensures .is) (⊎-elim (λ x. omega (arith, x)) (λ x. omega (arith, x)) (p .before .if1 .came))
     (t .take-leaf .ensures) (u .pointer2 .ensures .is) (c .before .before .commit .ensures)
 

@@ -9,9 +9,10 @@ use Rattle.model.specs.Layout.{layoutOf}
 use Rattle.words.proofs.Widths as Widths
 use Rattle.kinds.proofs.Figures.{reach, small-sizes}
 use Rattle.plans.specs.Onto.{onto}
-use Rattle.ways.proofs.Ways as Ways
-use Rattle.ways.proofs.shadow_inside.Statement.{statement}
-use Rattle.ways.proofs.shadow_inside.Tie as tie
+use Rattle.shadows.proofs.ReadyWrites as ReadyWrites
+use Rattle.shadows.proofs.Shadows as Shadows
+use Rattle.shadows.proofs.shadow_inside.Statement.{statement}
+use Rattle.shadows.proofs.shadow_inside.Tie as tie
 
 -- the board that is read
 abbrev seen : tie.Start → List ℕ
@@ -31,7 +32,7 @@ abbrev built : tie.After-pointer → tie.After-build
 built c = c .before .before .before .before .before .before .before
 
 root-low : (c : tie.After-low-of) → c .low-of .result ≤ layoutOf (start c .args .kind) .height
-root-low c = let s = start c in Ways.root-height (s .pre .1) (s .pre .0) (c .low-of .ensures)
+root-low c = let s = start c in ReadyWrites.root-height (s .pre .1) (s .pre .0) (c .low-of .ensures)
 
 descend-requires : tie.Need-descend-requires
 descend-requires c κs = let h = c .before in let s = start h in let r = s .pre .1 in (
@@ -46,10 +47,10 @@ low : (c : tie.After-descend) → c .descend .result .height ≤ layoutOf (start
 low c = omega (arith, c .descend .ensures .low, root-low (high c))
 
 build-requires : tie.Need-build-requires
-build-requires c κs = let d = c .before .before in let s = start (high d) in let r = d .descend .result in Ways.may-build (s .pre .1) (low d) (seen s) (r .block) (r .left) (r .offset)
+build-requires c κs = let d = c .before .before in let s = start (high d) in let r = d .descend .result in ReadyWrites.may-build (s .pre .1) (low d) (seen s) (r .block) (r .left) (r .offset)
 
-some : (c : tie.After-build) → let a = start (high (down c)) .args in Ways.Some (a .bits) (a .base) (a .c) (c .build .result)
-some c = let d = down c in let s = start (high d) in let r = d .descend .result in Ways.some-built (s .pre .1) (low d) (seen s) (r .block) (r .left) (r .offset) (c .build .ensures)
+some : (c : tie.After-build) → let a = start (high (down c)) .args in ReadyWrites.Some (a .bits) (a .base) (a .c) (c .build .result)
+some c = let d = down c in let s = start (high d) in let r = d .descend .result in ReadyWrites.some-built (s .pre .1) (low d) (seen s) (r .block) (r .left) (r .offset) (c .build .ensures)
 
 word-on-requires : tie.Need-word-on-requires
 word-on-requires c κs = start (high (down (c .before .before .before .before))) .pre .1 .pointers
@@ -87,7 +88,7 @@ returns c =
     let d = down b in
     let s = start (high d) in
     let a = s .args in
-    Ways.inside-laid (layoutOf (a .kind)) (s .pre .1 .pages .wide .is) (seen s) (a .inode) (f .before .place .ensures) (f .place2 .ensures) (high d .low-of .ensures) (d .before .block-of .ensures)
+    Shadows.inside-laid (layoutOf (a .kind)) (s .pre .1 .pages .wide .is) (seen s) (a .inode) (f .before .place .ensures) (f .place2 .ensures) (high d .low-of .ensures) (d .before .block-of .ensures)
     (d .descend .ensures) (b .build .ensures) (w .word-on .ensures) (p .before .low-of2 .ensures) (p .pointer .ensures .is) (c .before .before .commit .ensures)
 
 pub shadow-inside-spec : {M : Type 1} → statement M

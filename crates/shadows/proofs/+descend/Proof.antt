@@ -15,12 +15,12 @@ use Rattle.trees.proofs.Reaching.{lower}
 use Rattle.trees.proofs.span.Reads as span-reads
 use Rattle.plans.proofs.cell_on.Reads as cell-on-reads
 use Rattle.taking.proofs.minus.Reads as minus-reads
-use Rattle.ways.proofs.Descents.{lies, at-data, at-null, at-wide, down}
-use Rattle.ways.proofs.descend.Reads as descend
-use Rattle.ways.proofs.descend.Kinds as kinds
-use Rattle.ways.proofs.+descend.Lts-descend as lts
-use Rattle.ways.proofs.+descend.{statement}
-use Rattle.ways.proofs.+descend.Tie.{close}
+use Rattle.shadows.proofs.Descents.{lies, at-data, at-null, at-wide, down}
+use Rattle.shadows.proofs.descend.Reads as descend
+use Rattle.shadows.proofs.descend.Kinds as kinds
+use Rattle.shadows.proofs.+descend.Lts-descend as lts
+use Rattle.shadows.proofs.+descend.{statement}
+use Rattle.shadows.proofs.+descend.Tie.{close}
 
 abbrev μ : Measures 3 kinds.ps ℕ
 μ κs a = a .1 .1 .1 .1 .0
