@@ -1,4 +1,4 @@
-// Ways 2 and 3 of planning a write, growth and a single word, and what the other ways use. The names of arguments are those of `building`; each
+// Ways 2 and 3 of planning a write, growth and a single word, and what the other ways use. The names of arguments are those of `taking`; each
 // answers how many pairs the plan has then and how many fresh blocks are taken.
 use boards::inode_pointer;
 use boards::trailer;

@@ -1,5 +1,5 @@
 // The shadows: a write within the size, committed at one pointer, and one that ends past it, committed at the inode pointer. The names of arguments are
-// those of `building`.
+// those of `taking`.
 use building::build;
 use growing::Count;
 use model::Inode;

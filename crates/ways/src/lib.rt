@@ -1,4 +1,4 @@
-// The ways of planning a write from the fourth on: tail, shadow inside, shadow with length. The names of arguments are those of `building`.
+// The tail way, and the choice among ways 4 to 6; `shadows` has the other two. The names of arguments are those of `taking`.
 use building::build;
 use building::tail_pages;
 use growing::Count;
