@@ -57,6 +57,6 @@ pub mod Rules
 pub mod WayNeeds
 pub mod PastEnd
 pub mod FormatCut
--- Proofs by computation, and format by one
+-- Proofs by computation: one name for all definitions, and format on 16 blocks
 pub mod Computing
 pub mod FormatExample
