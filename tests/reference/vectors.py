@@ -46,25 +46,13 @@ use Rattle.model.specs.Store.{store, laid}
 use Rattle.model.specs.Plan.{pairs}
 use Rattle.model.specs.Hidden.{hidden}
 use Rattle.model.specs.GivenUp.{lengthGives, writeGives}
-use Rattle.model.specs.Answers.{number}
 use Rattle.model.specs.Calls.{checkAnswer, freeCountAnswer, sizeAnswer, readAnswer, readBuffer, Planned, lowest, write, setLength, format, performAnswer, performBoard}
 use Rattle.model.specs.Cabinet.{imageCheck, imageSize, imageRead, imageReadBuffer}
 use Rattle.model.specs.Lister.{listing}
 use Rattle.model.proofs.Computing.{computes}
+use Rattle.examples.specs.Examples.{sameList, sameAnswer}
 use Rattle.bands.specs.Sheet.{row, sheet, lies, heightIn, sheetHeight}
 use Rattle.bands.specs.Planned.{wayBy, growthBy, grownInodeBy, somePlanBy, writePlanBy}
-
-sameList : List ℕ → List ℕ → Bool
-sameList [] [] = true
-sameList [] (y ∷ ys) = false
-sameList (x ∷ xs) [] = false
-sameList (x ∷ xs) (y ∷ ys) = eqb x y && sameList xs ys
-
-sameAnswer : Answer → Answer → Bool
-sameAnswer (Done m) (Done n) = eqb m n
-sameAnswer (Done m) (Refused f) = false
-sameAnswer (Refused e) (Done n) = false
-sameAnswer (Refused e) (Refused f) = eqb (number e) (number f)
 
 samePlanned : Planned → Answer → List ℕ → Bool
 samePlanned p a slice = sameAnswer (p .answer) a && sameList (p .slice) slice
@@ -82,6 +70,7 @@ sameEnd (Block m) Hole = false
 sameEnd (Block m) (Block n) = eqb m n
 
 '''
+ALONE = '// The definitions alone.\n'
 OPEN = 'unfolding computes sameAnswer sameList samePlanned sameInt sameEnd row sheet lies heightIn sheetHeight wayBy growthBy grownInodeBy somePlanBy writePlanBy'
 
 
@@ -419,16 +408,16 @@ def text_of(vectors, chosen):
 
 def prove(vectors, crates=2):
     """What the prover says of the vectors as theorems, in some crates side by side over a copy of the definitions."""
-    texts = {'model/proofs/Lib.antt': 'pub mod Computing\n', 'bands/src/lib.rt': '// The definitions alone.\n'}
-    listed = 'model:\nbands: model\n'
+    texts = {'model/proofs/Lib.antt': 'pub mod Computing\n', 'examples/src/lib.rt': ALONE, 'bands/src/lib.rt': ALONE}
+    listed = 'model:\nexamples: model\nbands: model\n'
     for c in range(crates):
-        listed += 'vectors%d: model bands\n' % c
+        listed += 'vectors%d: model examples bands\n' % c
         texts['vectors%d/src/lib.rt' % c] = 'pub const PART: usize = %d;\n' % c
         texts['vectors%d/proofs/Lib.antt' % c] = 'pub mod Vectors\n'
         texts['vectors%d/proofs/Vectors.antt' % c] = text_of(vectors, range(c, len(vectors.all), crates))
     place = tempfile.mkdtemp()
     try:
-        for part in ('model/src', 'model/specs', 'model/proofs/Computing.antt', 'bands/specs'):
+        for part in ('model/src', 'model/specs', 'model/proofs/Computing.antt', 'examples/specs', 'bands/specs'):
             source, target = os.path.join(ROOT, 'crates', part), os.path.join(place, 'crates', part)
             os.makedirs(os.path.dirname(target), exist_ok=True)
             (shutil.copytree if os.path.isdir(source) else shutil.copy)(source, target)
