@@ -1,1 +1,3 @@
+-- The words of the trailer (Trailers), and where a file's inode stands (Inodes).
 pub mod Trailers
+pub mod Inodes

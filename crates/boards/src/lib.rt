@@ -8,14 +8,17 @@ use kinds::mark;
 use kinds::most;
 use kinds::start_in;
 use kinds::words_in;
+use model::Inode;
 use model::Kind;
 use words::cell;
+use words::word;
 ghost use mathlib.Core.Path.{_≡_};
 ghost use Prim.Native.Nat.{_+_, _-_, _<_};
 ghost use lib.ListN.{getD};
 ghost use Rattle.model.specs.Layout.{layoutOf};
 ghost use Rattle.model.specs.Board.{trailerWord, blockCount, trailer, inodePointer, rootAddress, root, size, wordCountSound, trailerSound};
 ghost use Rattle.boards.specs.Trailers.{trailerWordsSound};
+ghost use Rattle.boards.specs.Inodes.{AddressOf, InodeOf};
 
 // The number of blocks.
 pub fn block_count(kind: Kind, board: &[u64]) -> u64
@@ -68,6 +71,32 @@ pub fn size(kind: Kind, board: &[u64], f: u64) -> u64
     ensures { λ r. ⌜ r ≡ size (layoutOf kind) (now (board .entry)) f ⌝ }
 {
     inode_word(kind, board, f, 1)
+}
+
+// The address of a file's root word; its size stands in the next.
+pub fn root_address(kind: Kind, board: &[u64], file: u64) -> u64
+    ensures { λ r. ⌜ AddressOf (layoutOf kind) (now (board .entry)) file r ⌝ }
+{
+    let p = inode_pointer(kind, board, leaf_in(kind, file));
+    start_in(kind, block_in(kind, p)) + 2 * inode_in(kind, file)
+}
+
+// A file's inode.
+pub fn lent_inode(kind: Kind, board: &[u64], file: u64) -> Inode
+    requires { ⌜ file < 32 ⌝ }
+    ensures { λ r. ⌜ InodeOf (layoutOf kind) (now (board .entry)) file r ⌝ }
+{
+    let pointers = start_in(kind, block_in(kind, trailer(kind, board, 0)));
+    let pointer = pointers + leaf_in(kind, file);
+    let at = root_address(kind, board, file);
+    let root = word(board, at);
+    let size = word(board, at + 1);
+    Inode {
+        pointer: pointer,
+        at: at,
+        root: root,
+        size: size,
+    }
 }
 
 // Whether the board has 16 blocks to the most of its kind, and no part of one.

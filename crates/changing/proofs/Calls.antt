@@ -19,14 +19,13 @@ use Rattle.model.specs.Change.{writePlan, lengthPlan}
 use Rattle.model.specs.Answers.{Faults, answered}
 use Rattle.model.specs.Calls.{Planned, fileFaults, checkAnswer, planned, lowest, writeFaults, writeFrom, write, setLength}
 use Rattle.model.proofs.Refusals.{first-refused, first-done, checked, check-accepts}
-use Rattle.plans.specs.Laying.{Laid, PlanResult}
+use Rattle.plans.specs.Laying.{Laid, PlanResult, PlanLaid}
 use Rattle.plans.proofs.Laying.{laid-none}
 use Rattle.plans.proofs.Refusing.{turned, too-short, long-enough}
 use Rattle.reading.proofs.Answering.{file-there, file-found}
 use Rattle.kinds.proofs.Figures.{files-32}
 use Rattle.plans.specs.Onto.{taking}
-use Rattle.growing.specs.declared.Count.{Count}
-use Rattle.growing.specs.Planned.{PlanLaid}
+use Rattle.plans.specs.declared.Count.{Count}
 use Rattle.planning.specs.Asked.{File, Stocked}
 
 -- ---- A plan is first worked out on an empty part of the slice, which leaves the slice as it was

@@ -4,25 +4,22 @@ use mathlib.Core.Logic.{_≢_}
 use mathlib.Core.List.{List, [], _∷_}
 use Prim.Native.Nat.{ℕ, zero, suc, _+_, _-_, _*_, _/_, _%_, _^_, _≤_, _<_}
 use native.Mathlib.Omega.{arith}
-use native.Mathlib.Nat.{zero-add, mul-zero, mul-comm, mul-le-mul-right, mod-lt, div-add-mod', div-lt-iff-lt-mul}
+use native.Mathlib.Nat.{zero-add, mul-zero, mul-comm, mul-le-mul-right, div-add-mod'}
 use native.Mathlib.Numerals.{sub-one}
 use lib.ListN.{length, getD}
 use Rattle.model.specs.Lists.{tabulate}
 use Rattle.model.specs.declared.Inode.{Inode}
-use Rattle.model.specs.declared.Kind.{Kind}
-use Rattle.model.specs.Layout.{Layout, layoutOf, files}
-use Rattle.model.specs.Board.{trailer, inodeBlock, sizeAddress, root, size}
+use Rattle.model.specs.Layout.{Layout}
+use Rattle.model.specs.Board.{root}
 use Rattle.model.specs.Store.{store}
 use Rattle.model.specs.Fresh.{Page}
 use Rattle.model.specs.Change.{levelPage, levelBelow, levels, levelTop, growthTo}
 use Rattle.model.proofs.Perform.{length-tabulate}
-use Rattle.kinds.proofs.Figures.{fits, files-32, block-room}
-use Rattle.plans.specs.Laying.{closing, Laid}
+use Rattle.plans.specs.Laying.{closing, Laid, PlanLaid}
 use Rattle.plans.specs.Onto.{taking, Blocks}
 use Rattle.taking.specs.Taking.{Took}
 use Rattle.taking.proofs.Taken as Taken
-use Rattle.growing.specs.Planned.{PlanLaid, AddressOf, InodeOf}
-use Rattle.growing.proofs.OneStep.{one-step}
+use Rattle.plans.proofs.OneStep.{one-step}
 
 -- ---- Levels
 
@@ -104,22 +101,3 @@ growth-laid g {free} {t = t} {v} n h l ev commit =
     let W : ℕ = g .words in
     let all : length (levels W (taking free) (n .root / W) (h - n .root % W)) ≡ t = omega (arith, l .next) in
     rw (← ev, all) (one-step (n .at) v t (rw (mul-zero W, zero-add (W * t)) at (Taken.laid-pages l)) commit refl)
-
--- ---- The inode
-
--- the inodes of a leaf have addresses
-pub place : (kind : Kind) (p f : ℕ) → p < 2 ^ 64 → layoutOf kind .words * (p / layoutOf kind .words) + (2 * (f % layoutOf kind .inodes) + 1) < 2 ^ 64
-place kind p f l = let fit = fits kind in omega (arith, block-room kind p l, mod-lt f (fit .inodes-some), fit .inodes-fit)
-
--- the inode pointer has an address
-pub pointer-room : (kind : Kind) (w f : ℕ) → w < 2 ^ 64 → f < 32 → layoutOf kind .words * (w / layoutOf kind .words) + f / layoutOf kind .inodes < 2 ^ 64
-unfolding files
-pointer-room kind w f l m =
-    let fit = fits kind in
-    let leaf : f / layoutOf kind .inodes < layoutOf kind .leaves = div-lt-iff-lt-mul (fit .inodes-some) .1 (rw (files-32 kind) m) in
-    omega (arith, block-room kind w l, fit .leaves-fit)
-
-pub inode-is : {g : Layout} {b : List ℕ} {f w p a r s : ℕ} → w ≡ trailer g b 0 → p ≡ g .words * (w / g .words) + f / g .inodes → AddressOf g b f a → r ≡ getD b a 0 → s ≡ getD b (a + 1) 0
-    → InodeOf g b f (record { pointer = p; at = a; root = r; size = s })
-unfolding inodeBlock root size sizeAddress
-inode-is ew ep at er es = record { is = rw (ep, ew, er, es, at .is); small = at .small }

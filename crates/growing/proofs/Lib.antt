@@ -1,3 +1,3 @@
--- What the proofs of several functions use: plans of one step (OneStep), and growth (Growth).
-pub mod OneStep
+-- What the proofs of several functions use: whether a tree grows (Growing), and growth (Growth).
+pub mod Growing
 pub mod Growth

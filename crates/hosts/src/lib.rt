@@ -76,7 +76,7 @@ pub extern "C" fn montebeech_words_set_length(
 pub extern "C" fn montebeech_words_format(board: &[u64], plan: &mut [u64]) -> i64
     ensures { λ r. ⌜ WordsPlan (format house (now (board .entry)) (now (plan .entry))) r (now (plan .exit)) ⌝ }
 {
-    signed(performing::format(board, plan))
+    signed(formatting::format(board, plan))
 }
 
 // Perform: the first `pairs` pairs of a plan; answers their number, or -1, -9, -10.

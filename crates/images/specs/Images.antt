@@ -2,15 +2,10 @@
 use mathlib.Core.Path.{_≡_}
 use mathlib.Core.Bool.{cond, _&&_}
 use mathlib.Core.List.{List, []}
-use Prim.Native.Nat.{ℕ, _%_, _≤_, _<_}
-use lib.ListN.{length, getD, take}
+use Prim.Native.Nat.{ℕ, _%_, _≤_}
+use lib.ListN.{length, take}
 use lib.Dec.{leb, eqb}
 use Rattle.model.specs.Words.{wordsOf}
-
--- r is the byte at an index
-pub record ByteAt (image : List ℕ) (at r : ℕ) : Type 0 where
-  pub is : r ≡ getD image at 0
-  pub small : r < 256
 
 -- The board that an image is read as: its words, or none where its bytes are no whole number of words or more than a board's. A board of no words is
 -- refused 1, as such an image is.

@@ -1,6 +1,6 @@
 -- What every kind's figures have in common.
 use mathlib.Core.Path.{_≡_, refl}
-use Prim.Native.Nat.{ℕ, _+_, _*_, _/_, _^_, _≤_, _<_}
+use Prim.Native.Nat.{ℕ, _+_, _*_, _/_, _%_, _^_, _≤_, _<_}
 use native.Mathlib.Omega.{arith}
 use Rattle.model.specs.declared.Kind.{Kind}
 use Rattle.model.specs.declared.Kind.the-variants.{House, Published}
@@ -69,3 +69,7 @@ spans k h l = omega (arith, span-mono (layoutOf k .words) (words-pos k) h (layou
 -- its tree is one that code can compute with
 pub reach : (k : Kind) {r h : ℕ} → Bits k r → h ≤ layoutOf k .height → Reach r h
 reach k {r} {h} b l = record { width = b .width; spans = rw (b .is) at (spans k h l) }
+
+-- the height in a root word x, by the width
+pub height-low : {k : Kind} {r h : ℕ} (x : ℕ) → Bits k r → x % layoutOf k .words ≤ layoutOf k .height → h ≡ x % 2 ^ r → h ≤ layoutOf k .height
+height-low x b l e = rw (e, ← b .is) l

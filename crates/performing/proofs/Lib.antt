@@ -1,4 +1,3 @@
--- What the proofs of several functions use: the pairs that a slice holds (Pairs), perform's loops and ways out (Performing), and format's (Formatting).
+-- What the proofs of several functions use: the pairs that a slice holds (Pairs), and perform's loops and ways out (Performing).
 pub mod Pairs
 pub mod Performing
-pub mod Formatting

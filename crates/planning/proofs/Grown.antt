@@ -24,17 +24,16 @@ use Rattle.words.specs.Width.{Width}
 use Rattle.kinds.specs.Figures.{Bits}
 use Rattle.kinds.proofs.Figures.{fits, words-pos, low-height}
 use Rattle.plans.specs.declared.Grown.{Grown}
-use Rattle.plans.specs.Laying.{closing, Laid}
+use Rattle.plans.specs.Laying.{closing, Laid, PlanLaid}
 use Rattle.plans.specs.Onto.{taking, Blocks, onto, NotGrown}
 use Rattle.plans.proofs.Laying as Laying
 use Rattle.plans.proofs.Onto.{onto-none}
-use Rattle.growing.specs.declared.Count.{Count}
-use Rattle.growing.specs.Planned.{PlanLaid}
+use Rattle.plans.specs.declared.Count.{Count}
 use Rattle.growing.proofs.Growth.{levels-most}
-use Rattle.growing.proofs.OneStep.{step-plan}
+use Rattle.plans.proofs.OneStep.{step-plan}
 use Rattle.shadows.specs.Planning.{Pages, Ready}
 use Rattle.planning.specs.Asked.{Growable}
-use Rattle.planning.proofs.Growing.{spanned, grown-height}
+use Rattle.growing.proofs.Growing.{spanned, grown-height}
 
 -- ---- Pairs of two plans
 

@@ -22,11 +22,11 @@ use Rattle.kinds.specs.Figures.{Bits}
 use Rattle.kinds.proofs.Figures.{fits, files-32}
 use Rattle.plans.specs.Laying.{closing, Laid}
 use Rattle.plans.proofs.Laying as Laying
-use Rattle.growing.specs.Planned.{AddressOf}
-use Rattle.growing.proofs.OneStep.{step-plan}
+use Rattle.boards.specs.Inodes.{AddressOf}
+use Rattle.plans.proofs.OneStep.{step-plan}
 use Rattle.ways.proofs.Ways.{few-stores}
 use Rattle.planning.specs.Asked.{File}
-use Rattle.planning.proofs.Growing.{size-is}
+use Rattle.boards.proofs.Inodes.{size-is}
 
 -- ---- The pairs
 

@@ -22,8 +22,9 @@ use Rattle.model.proofs.Ranges.{file-range}
 use Rattle.kinds.proofs.Figures.{fits, words-pos, few-blocks as few, files-32}
 use Rattle.surveying.proofs.Surveying.{short}
 use Rattle.plans.specs.Onto.{taking}
-use Rattle.growing.specs.declared.Count.{Count}
-use Rattle.growing.specs.Planned.{PlanLaid, InodeOf}
+use Rattle.plans.specs.declared.Count.{Count}
+use Rattle.boards.specs.Inodes.{InodeOf}
+use Rattle.plans.specs.Laying.{PlanLaid}
 use Rattle.planning.specs.Asked.{File, Growable, Asked}
 
 -- ---- Whether a single word is written

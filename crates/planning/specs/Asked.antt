@@ -1,22 +1,15 @@
 -- What the functions that plan a write and a length change are asked on.
 use mathlib.Core.Path.{_≡_}
-use mathlib.Core.List.{List, _++_}
-use Prim.Native.Nat.{ℕ, _+_, _-_, _%_, _^_, _≤_, _<_}
-use lib.ListN.{length, drop}
+use mathlib.Core.List.{List}
+use Prim.Native.Nat.{ℕ, _+_, _%_, _^_, _≤_, _<_}
+use lib.ListN.{length}
 use lib.Dec.{T}
 use Rattle.model.specs.declared.Inode.{Inode}
-use Rattle.model.specs.Lists.{pickFrom}
 use Rattle.model.specs.declared.Kind.{Kind}
 use Rattle.model.specs.Layout.{layoutOf}
 use Rattle.model.specs.Board.{greatest, free, accepted}
 use Rattle.model.specs.Calls.{lowest}
-use Rattle.surveying.specs.Survey.{spare}
 use Rattle.plans.specs.Onto.{taking, Blocks}
-
--- the blocks that marks have free, of those below top, at the front of a table
-pub record Listed (marks : List ℕ) (top : ℕ) (table : List ℕ) (r : ℕ) (table′ : List ℕ) : Type 0 where
-  pub count : r ≡ length (pickFrom 1 (top - 1) (spare marks))
-  pub is : table′ ≡ pickFrom 1 (top - 1) (spare marks) ++ drop r table
 
 -- a file of an accepted board
 pub record File (kind : Kind) (b : List ℕ) (f : ℕ) : Type 0 where

@@ -1,15 +1,14 @@
 // Plans of writes and length changes, once no refusal up to 6 turns the call away. `free` lists the free blocks; `pages` has room for a page on each level
-// of a tree.
-use growing::Count;
+use boards::lent_inode;
+use boards::root_address;
 use growing::grow;
 use growing::grown_root;
-use growing::lent_inode;
-use growing::root_address;
-use growing::single;
+use growing::grows;
 use kinds::height_in;
 use model::Inode;
 use model::Kind;
 use model::WalkEnd;
+use plans::Count;
 use plans::Grown;
 use plans::barrier;
 use plans::commit;
@@ -17,54 +16,24 @@ use plans::not_grown;
 use plans::pair;
 use tails::clear_in_place;
 use trees::root_walk;
-use trees::span;
+use ways::single;
 use ways::way;
 use words::block_of;
 use words::low_of;
-use words::put;
 use words::start_of;
 use words::word;
-ghost use mathlib.Core.Path.{_≡_};
-ghost use Prim.Native.Nat.{_%_, _≤_, _<_};
-ghost use lib.ListN.{length};
+ghost use Prim.Native.Nat.{_≤_};
 ghost use Rattle.model.specs.Layout.{layoutOf};
 ghost use Rattle.model.specs.Board.{greatest};
 ghost use Rattle.model.specs.Plan.{pairs};
-ghost use Rattle.model.specs.Change.{growing, grownPlan, writePlan, lengthPlan};
+ghost use Rattle.model.specs.Change.{grownPlan, writePlan, lengthPlan};
 ghost use Rattle.kinds.specs.Figures.{Bits};
-ghost use Rattle.plans.specs.Laying.{Laid};
+ghost use Rattle.plans.specs.Laying.{Laid, PlanLaid};
 ghost use Rattle.plans.specs.Onto.{taking};
-ghost use Rattle.growing.specs.Planned.{PlanLaid};
 ghost use Rattle.shadows.specs.Planning.{Pages};
-ghost use Rattle.planning.specs.Asked.{Listed, File, Growable, Asked};
+ghost use Rattle.planning.specs.Asked.{File, Growable, Asked};
 
-// Lists the blocks from 1 to top - 1 that are not marked, at the front of a table. Answers how many there are.
-pub fn list_free(marks: &[u64], top: u64, table: &mut [u64]) -> u64
-    requires { ⌜ top ≤ length (now table) ⌝ }
-    ensures { λ r. ⌜ Listed (now (marks .entry)) top (now (table .entry)) r (now (table .exit)) ⌝ }
-{
-    let mut count = 0;
-    let mut k = 1;
-    while k < top {
-        if word(marks, k) == 0 {
-            put(table, count, k);
-            count += 1;
-        }
-        k += 1;
-    }
-    count
-}
-
-// Whether a write that ends at e makes a file's tree grow first.
-fn grows(kind: Kind, bits: u64, inode: Inode, e: u64) -> bool
-    requires { ⌜ Bits kind bits × (0 < inode .size → inode .root % layoutOf kind .words ≤ layoutOf kind .height) ⌝ }
-    ensures { λ r. ⌜ r ≡ growing (layoutOf kind) inode e ⌝ }
-{
-    if inode.size == 0 {
-        return false;
-    }
-    span(bits, low_of(bits, inode.root)) < e
-}
+// of a tree.
 
 // Plans growth, where it is due, and what follows on the grown board.
 fn plan_grown(

@@ -68,6 +68,12 @@ pub fn commit(plan: &mut [u64], from: u64, p: u64, at: u64, value: u64) -> u64
     q + 1
 }
 
+// How many pairs a plan has and how many fresh blocks it takes.
+pub struct Count {
+    pub pairs: u64,
+    pub taken: u64,
+}
+
 // Growth that is planned and not performed yet: `levels` fresh blocks over block `below`, the first free ones, and the root word at address `at`.
 pub struct Grown {
     pub below: u64,

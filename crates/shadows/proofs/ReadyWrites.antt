@@ -17,7 +17,7 @@ use Rattle.model.proofs.Paths.{touched-new, fresh-pos}
 use Rattle.model.proofs.Built.{length-build}
 use Rattle.words.proofs.Widths as Widths
 use Rattle.kinds.specs.Figures.{Bits}
-use Rattle.kinds.proofs.Figures.{words-pos, small-sizes, reach}
+use Rattle.kinds.proofs.Figures.{words-pos, small-sizes, height-low, reach}
 use Rattle.trees.specs.Trees.{Reach}
 use Rattle.trees.proofs.Reaching.{two}
 use Rattle.plans.specs.declared.Grown.{Grown}
@@ -34,10 +34,6 @@ whole-few {k} {r} {h} b l =
     let g : Layout = layoutOf k in
     let top : span (g .words) (g .height) ≤ 2 ^ 21 = small-sizes k in
     omega (arith, whole-small (2 ^ r) (two (reach k b l)) h, rw (b .is) at (span-mono (g .words) (words-pos k) h (g .height) l), rw (b .is) at top)
-
--- the height in a root word x, by the width
-pub height-low : {k : Kind} {r h : ℕ} (x : ℕ) → Bits k r → x % layoutOf k .words ≤ layoutOf k .height → h ≡ x % 2 ^ r → h ≤ layoutOf k .height
-height-low x b l e = rw (e, ← b .is) l
 
 -- the height of the file's tree
 pub root-height : {kind : Kind} {bits : ℕ} {n : Inode} {o : ℕ} {new free pages : List ℕ} {grown : Grown} {base t h : ℕ} → Ready kind bits n o new free pages grown base t

@@ -8,12 +8,11 @@ use Rattle.model.specs.Layout.{Layout}
 use Rattle.model.specs.Store.{store}
 use Rattle.model.specs.Fresh.{build}
 use Rattle.model.specs.Change.{shadowInside, leafPage, shadowWithLength}
-use Rattle.plans.specs.Laying.{closing, Laid}
+use Rattle.plans.specs.Laying.{closing, Laid, PlanLaid}
 use Rattle.plans.specs.Onto.{taking}
 use Rattle.taking.specs.Taking.{Took}
 use Rattle.taking.proofs.Taken as Taken
-use Rattle.growing.specs.Planned.{PlanLaid}
-use Rattle.growing.proofs.OneStep.{one-step}
+use Rattle.plans.proofs.OneStep.{one-step}
 use Rattle.shadows.specs.declared.Spot.{Spot}
 use Rattle.shadows.specs.Planning.{Descended}
 

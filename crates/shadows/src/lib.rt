@@ -1,20 +1,19 @@
 // The shadows: a write within the size, committed at one pointer, and one that ends past it, committed at the inode pointer. The names of arguments are
-// those of `taking`.
 use building::build;
-use growing::Count;
 use model::Inode;
 use model::Kind;
+use plans::Count;
 use plans::Grown;
 use plans::cell_on;
 use plans::commit;
 use plans::pair;
 use plans::word_on;
-use taking::minus;
 use taking::place;
 use taking::pointer;
 use trees::span;
 use words::block_of;
 use words::low_of;
+use words::minus;
 use words::start_of;
 use words::width;
 ghost use mathlib.Core.Path.{_≡_};
@@ -27,8 +26,10 @@ ghost use Rattle.model.specs.Change.{shadowInside, leafPage, shadowWithLength};
 ghost use Rattle.trees.specs.Trees.{Reach};
 ghost use Rattle.plans.specs.Onto.{taking, onto, Pointers};
 ghost use Rattle.taking.specs.Taking.{Took};
-ghost use Rattle.growing.specs.Planned.{PlanLaid};
+ghost use Rattle.plans.specs.Laying.{PlanLaid};
 ghost use Rattle.shadows.specs.Planning.{Descended, Ready};
+
+// those of `taking`.
 
 // Where a descent ends: the tree that is built anew, and the address of its pointer.
 pub struct Spot {

@@ -1,5 +1,6 @@
--- What the proofs of several functions use: marks that start at 0 find what is reached twice (Reached), one leaf and one file (Inodes), and a survey's
--- ways out (Surveying).
+-- What the proofs of several functions use: marks that start at 0 find what is reached twice (Reached), one leaf and one file (Inodes), a survey's
+-- ways out (Surveying), and the free blocks listed (Listing).
 pub mod Reached
 pub mod Inodes
 pub mod Surveying
+pub mod Listing

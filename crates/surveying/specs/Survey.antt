@@ -1,13 +1,13 @@
--- What a survey of a board answers.
+-- What a survey of a board answers, and the free blocks listed.
 use mathlib.Core.Path.{_≡_}
 use mathlib.Core.Bool.{Bool, _&&_}
-use mathlib.Core.List.{List}
+use mathlib.Core.List.{List, _++_}
 use Prim.Native.Nat.{ℕ, _-_}
-use lib.ListN.{getD, replicate}
+use lib.ListN.{length, getD, drop, replicate}
 use lib.Dec.{ltb, eqb}
 use Rattle.model.specs.declared.Answer.{Answer}
 use Rattle.model.specs.declared.Answer.the-variants.{Done}
-use Rattle.model.specs.Lists.{every}
+use Rattle.model.specs.Lists.{every, pickFrom}
 use Rattle.model.specs.Layout.{Layout, files}
 use Rattle.model.specs.Board.{blockCount, inodeBlock, liveBlocks, leafSound, fileSound}
 use Rattle.model.specs.Calls.{checkAnswer}
@@ -25,3 +25,8 @@ spare m k = eqb (getD m k 0) 0
 pub record Surveyed (g : Layout) (b : List ℕ) (r : Answer) (m : List ℕ) : Type 0 where
   pub answer : r ≡ checkAnswer g b
   pub marks : (v : ℕ) → r ≡ Done v → m ≡ marked (replicate 1024 0) (liveBlocks g b)
+
+-- the blocks that marks have free, of those below top, at the front of a table
+pub record Listed (marks : List ℕ) (top : ℕ) (table : List ℕ) (r : ℕ) (table′ : List ℕ) : Type 0 where
+  pub count : r ≡ length (pickFrom 1 (top - 1) (spare marks))
+  pub is : table′ ≡ pickFrom 1 (top - 1) (spare marks) ++ drop r table

@@ -16,17 +16,18 @@ use model::Fault;
 use model::Kind;
 use trees::claim;
 use trees::crawl;
+use words::put;
 use words::word;
 ghost use mathlib.Core.Path.{_≡_};
 ghost use mathlib.Core.List.{[], _∷_};
-ghost use Prim.Native.Nat.{_-_};
+ghost use Prim.Native.Nat.{_-_, _≤_};
 ghost use lib.ListN.{length, replicate};
 ghost use Rattle.model.specs.Lists.{tabulate, joined, every, pickFrom};
 ghost use Rattle.model.specs.Layout.{layoutOf, files};
 ghost use Rattle.model.specs.Board.{leaf, fileBlocks, liveBlocks, leafSound, fileSound};
 ghost use Rattle.trees.specs.Marks.{Marked};
 ghost use Rattle.kinds.specs.Figures.{Bits};
-ghost use Rattle.surveying.specs.Survey.{pointersSound, spare, Surveyed};
+ghost use Rattle.surveying.specs.Survey.{pointersSound, spare, Surveyed, Listed};
 
 // Marks leaf l; whether its pointer is as it must be and it was not marked before.
 fn leaf(kind: Kind, board: &[u64], marks: &mut [u64], l: u64) -> bool
@@ -136,6 +137,23 @@ pub fn unmarked(marks: &[u64], top: u64) -> u64
     let mut k = 1;
     while k < top {
         if word(marks, k) == 0 {
+            count += 1;
+        }
+        k += 1;
+    }
+    count
+}
+
+// Lists the blocks from 1 to top - 1 that are not marked, at the front of a table. Answers how many there are.
+pub fn list_free(marks: &[u64], top: u64, table: &mut [u64]) -> u64
+    requires { ⌜ top ≤ length (now table) ⌝ }
+    ensures { λ r. ⌜ Listed (now (marks .entry)) top (now (table .entry)) r (now (table .exit)) ⌝ }
+{
+    let mut count = 0;
+    let mut k = 1;
+    while k < top {
+        if word(marks, k) == 0 {
+            put(table, count, k);
             count += 1;
         }
         k += 1;

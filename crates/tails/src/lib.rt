@@ -1,5 +1,4 @@
 // Writing at the end of a file in place: stores to words that exist. The names of arguments are those of `taking`; n is both the end of the tree's
-// visible bytes and the place where `new` is written. A block has 2 ^ bits words.
 use model::WalkEnd;
 use plans::Grown;
 use plans::cell_on;
@@ -7,13 +6,13 @@ use plans::link_on;
 use plans::not_grown;
 use plans::pair;
 use taking::data_word;
-use taking::minus;
 use taking::part;
 use taking::part_length;
 use taking::pointer;
 use taking::tree_need;
 use trees::span;
 use words::block_of;
+use words::minus;
 use words::start_of;
 use words::width;
 ghost use mathlib.Core.Path.{_≡_};
@@ -25,6 +24,8 @@ ghost use Rattle.plans.specs.Laying.{Laid};
 ghost use Rattle.plans.specs.Onto.{Blocks, onto, Pointers};
 ghost use Rattle.taking.specs.Taking.{TreeCount};
 ghost use Rattle.tails.specs.Stores.{hooks, wordStores, padded};
+
+// visible bytes and the place where `new` is written. A block has 2 ^ bits words.
 
 // The walk to byte n of the tree (h, k, n), the first past its visible bytes, along live pointers: a hole where one of them is null.
 pub fn walk_live(

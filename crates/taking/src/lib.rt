@@ -1,20 +1,19 @@
 // Blocks taken for a write: what of its bytes falls under a child, a block's words, its stores in the plan, which blocks of a tree are made fresh and how
-// many. A block has 2 ^ bits words. `board` is read with the growth `grown` performed; `free` lists the free blocks; c counts those taken; `base` is how
-// many pairs of the plan stand for no fresh block.
-use images::word_at;
 use plans::Grown;
 use plans::block;
 use plans::link_on;
 use plans::pair;
 use trees::span;
 use words::byte;
+use words::minus;
 use words::start_of;
 use words::width;
 use words::word;
+use words::word_at;
 ghost use mathlib.Core.Path.{_≡_};
 ghost use mathlib.Core.Bool.{false, _&&_};
 ghost use mathlib.Core.List.{[], _∷_};
-ghost use Prim.Native.Nat.{_+_, _-_, _*_, _^_, _≤_, _<_};
+ghost use Prim.Native.Nat.{_+_, _*_, _^_, _≤_, _<_};
 ghost use lib.ListN.{length, getD};
 ghost use lib.Dec.{eqb};
 ghost use Rattle.model.specs.Words.{wordOf};
@@ -25,12 +24,8 @@ ghost use Rattle.trees.specs.Trees.{Reach};
 ghost use Rattle.plans.specs.Onto.{Blocks, onto, Pointers};
 ghost use Rattle.taking.specs.Taking.{Took, PointerTo, splicedByte, SplicedByte, newStores, whole, TreeCount};
 
-// a - b, or 0.
-pub fn minus(a: u64, b: u64) -> u64
-    ensures { λ r. ⌜ r ≡ a - b ⌝ }
-{
-    if b <= a { a - b } else { 0 }
-}
+// many. A block has 2 ^ bits words. `board` is read with the growth `grown` performed; `free` lists the free blocks; c counts those taken; `base` is how
+// many pairs of the plan stand for no fresh block.
 
 // Of the bytes written at o, those that fall under child j, each child spanning s bytes.
 pub fn part<'a>(new: &'a [u8], s: u64, j: u64, o: u64) -> &'a [u8]

@@ -7,7 +7,7 @@ ghost use Rattle.model.specs.Lister.{digits, decimal, field, line, word-blocks,
 ghost use Rattle.text.specs.Wrote.{Wrote, entry};
 
 // One byte.
-pub fn put(out: &mut [u8], p: usize, b: u8) -> usize
+fn put(out: &mut [u8], p: usize, b: u8) -> usize
     requires { ⌜ p + 1 < 2 ^ 64 ⌝ }
     ensures { λ r. ⌜ Wrote 1 (b ∷ []) p (now (out .entry)) r (now (out .exit)) ⌝ }
 {
@@ -18,7 +18,7 @@ pub fn put(out: &mut [u8], p: usize, b: u8) -> usize
 }
 
 // A text that is lent.
-pub fn copy(out: &mut [u8], p: usize, text: &[u8]) -> usize
+fn copy(out: &mut [u8], p: usize, text: &[u8]) -> usize
     requires { ⌜ p + length (now text) < 2 ^ 64 ⌝ }
     ensures { λ r. ⌜ Wrote (length (now (text .entry))) (now (text .entry)) p (now (out .entry)) r (now (out .exit)) ⌝ }
 {
@@ -48,7 +48,7 @@ fn digits(out: &mut [u8], p: usize, most: usize, n: u64) -> usize
 }
 
 // A number.
-pub fn decimal(out: &mut [u8], p: usize, n: u64) -> usize
+fn decimal(out: &mut [u8], p: usize, n: u64) -> usize
     requires { ⌜ p + 20 < 2 ^ 64 ⌝ }
     ensures { λ r. ⌜ Wrote 20 (decimal n) p (now (out .entry)) r (now (out .exit)) ⌝ }
 {
@@ -56,7 +56,7 @@ pub fn decimal(out: &mut [u8], p: usize, n: u64) -> usize
 }
 
 // A word, a blank and a number: how a line begins.
-pub fn entry(out: &mut [u8], p: usize, word: &[u8], n: u64) -> usize
+fn entry(out: &mut [u8], p: usize, word: &[u8], n: u64) -> usize
     requires { ⌜ p + length (now word) + 21 < 2 ^ 64 ⌝ }
     ensures { λ r. ⌜ Wrote (length (now (word .entry)) + 21) (entry (now (word .entry)) n) p (now (out .entry)) r (now (out .exit)) ⌝ }
 {
@@ -66,7 +66,7 @@ pub fn entry(out: &mut [u8], p: usize, word: &[u8], n: u64) -> usize
 }
 
 // A field: an entry with a blank before it.
-pub fn field(out: &mut [u8], p: usize, word: &[u8], n: u64) -> usize
+fn field(out: &mut [u8], p: usize, word: &[u8], n: u64) -> usize
     requires { ⌜ p + length (now word) + 22 < 2 ^ 64 ⌝ }
     ensures { λ r. ⌜ Wrote (length (now (word .entry)) + 22) (field (now (word .entry)) n) p (now (out .entry)) r (now (out .exit)) ⌝ }
 {

@@ -25,14 +25,13 @@ use Rattle.words.proofs.Widths as Widths
 use Rattle.kinds.specs.Figures.{Bits}
 use Rattle.trees.specs.Trees.{Reach}
 use Rattle.plans.specs.declared.Grown.{Grown}
-use Rattle.plans.specs.Laying.{closing, Laid}
+use Rattle.plans.specs.Laying.{closing, Laid, PlanLaid}
 use Rattle.plans.specs.Onto.{taking, Pointers}
 use Rattle.plans.proofs.Laying as Laying
 use Rattle.taking.specs.Taking.{Took}
 use Rattle.taking.proofs.Taken as Taken
-use Rattle.growing.specs.declared.Count.{Count}
-use Rattle.growing.specs.Planned.{PlanLaid}
-use Rattle.growing.proofs.OneStep.{one-step}
+use Rattle.plans.specs.declared.Count.{Count}
+use Rattle.plans.proofs.OneStep.{one-step}
 use Rattle.tails.specs.Stores.{hooks, padded}
 use Rattle.tails.proofs.Room.{tail-most, place-most}
 use Rattle.shadows.specs.Planning.{Ready}

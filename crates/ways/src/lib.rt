@@ -1,11 +1,11 @@
 // The tail way, and the choice among ways 4 to 6; `shadows` has the other two. The names of arguments are those of `taking`.
 use building::build;
 use building::tail_pages;
-use growing::Count;
 use kinds::height_in;
 use model::Inode;
 use model::Kind;
 use model::WalkEnd;
+use plans::Count;
 use plans::Grown;
 use plans::commit;
 use plans::pair;
@@ -15,19 +15,41 @@ use tails::in_place;
 use tails::walk_live;
 use taking::place;
 use taking::pointer;
+use taking::spliced;
 use words::block_of;
 use words::low_of;
+use words::start_of;
+use words::word;
 ghost use mathlib.Core.Path.{_≡_};
 ghost use mathlib.Core.Bool.{_&&_};
 ghost use Prim.Native.Nat.{_+_, _*_, _/_, _%_, _^_, _<_};
 ghost use lib.Dec.{eqb};
 ghost use Rattle.model.specs.Layout.{layoutOf};
 ghost use Rattle.model.specs.InPlace.{atBlock, walkLive};
-ghost use Rattle.model.specs.Change.{emptyTail, tail, chosenWay};
+ghost use Rattle.model.specs.Change.{singleWord, emptyTail, tail, chosenWay};
 ghost use Rattle.trees.specs.Trees.{Reach};
 ghost use Rattle.plans.specs.Onto.{taking, onto, Pointers};
-ghost use Rattle.growing.specs.Planned.{PlanLaid};
+ghost use Rattle.plans.specs.Laying.{PlanLaid};
 ghost use Rattle.shadows.specs.Planning.{Ready};
+ghost use Rattle.kinds.specs.Figures.{Bits};
+
+// A write to one word of data block k.
+pub fn single(
+    kind: Kind,
+    bits: u64,
+    board: &[u64],
+    plan: &mut [u64],
+    k: u64,
+    o: u64,
+    new: &[u8],
+) -> Count
+    requires { ⌜ Bits kind bits × (k < 2 ^ 54) ⌝ }
+    ensures { λ r. ⌜ PlanLaid (now (plan .entry)) 0 (singleWord (layoutOf kind) (now (board .entry)) k o (now (new .entry))) (now (plan .exit)) r ⌝ }
+{
+    let at = start_of(bits, k) + low_of(bits + 3, o) / 8;
+    pair(plan, 0, at, spliced(word(board, at), 8, o % 8, new, 0));
+    Count { pairs: 1, taken: 0 }
+}
 
 // A write into an empty file, at any offset: bytes before o read 0, and pointers that lead to none of the new bytes are null.
 fn fill_empty(

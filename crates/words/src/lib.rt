@@ -1,11 +1,13 @@
 // Words of a board and bytes of a word. Access is total, as the definitions' is: a word off the slice reads 0, a store off it does nothing.
 ghost use mathlib.Core.Path.{_≡_};
-ghost use Prim.Native.Nat.{_*_, _/_, _%_, _^_, _≤_, _<_};
-ghost use lib.ListN.{length, getD, set};
-ghost use Rattle.model.specs.Words.{byteOf};
+ghost use mathlib.Core.List.{_++_};
+ghost use Prim.Native.Nat.{_+_, _-_, _*_, _/_, _%_, _^_, _≤_, _<_};
+ghost use lib.ListN.{length, getD, drop, set};
+ghost use Rattle.model.specs.Words.{byteOf, wordOf, wordsOf};
 ghost use Rattle.model.specs.Tree.{cell};
 ghost use Rattle.words.specs.Width.{Width, Wide};
 ghost use Rattle.words.specs.Filled.{Filled};
+ghost use Rattle.words.specs.Bytes.{ByteAt};
 
 // The word at an index.
 pub fn word(words: &[u64], at: u64) -> u64
@@ -23,6 +25,13 @@ pub fn put(words: &mut [u64], at: u64, value: u64)
     if i < words.len() {
         words[i] = value;
     }
+}
+
+// a - b, or 0.
+pub fn minus(a: u64, b: u64) -> u64
+    ensures { λ r. ⌜ r ≡ a - b ⌝ }
+{
+    if b <= a { a - b } else { 0 }
 }
 
 // A block has 2 ^ bits words: 8 on a house board (bits is 3), 512 on one with the published block (9).
@@ -89,6 +98,41 @@ pub fn spread(x: u64, out: &mut [u8])
     let mut i = 0;
     while i < 8 {
         out[i] = byte(x, i as u64);
+        i += 1;
+    }
+}
+
+// The byte at an index.
+fn byte_at(bytes: &[u8], at: usize) -> u64
+    requires { ⌜ at < length (now bytes) ⌝ }
+    ensures { λ r. ⌜ ByteAt (now (bytes .entry)) at r ⌝ }
+{
+    bytes[at] as u64
+}
+
+// The word whose byte 0 is at an index. A sum of this form is compiled to one load.
+pub fn word_at(bytes: &[u8], at: usize) -> u64
+    requires { ⌜ at + 8 ≤ length (now bytes) ⌝ }
+    ensures { λ r. ⌜ r ≡ wordOf 8 (λ i. getD (now (bytes .entry)) (at + i) 0) ⌝ }
+{
+    let x6 = byte_at(bytes, at + 6) + 256 * byte_at(bytes, at + 7);
+    let x5 = byte_at(bytes, at + 5) + 256 * x6;
+    let x4 = byte_at(bytes, at + 4) + 256 * x5;
+    let x3 = byte_at(bytes, at + 3) + 256 * x4;
+    let x2 = byte_at(bytes, at + 2) + 256 * x3;
+    let x1 = byte_at(bytes, at + 1) + 256 * x2;
+    byte_at(bytes, at) + 256 * x1
+}
+
+// Stores each whole word of some bytes.
+pub fn decode(bytes: &[u8], words: &mut [u64])
+    requires { ⌜ length (now bytes) / 8 ≤ length (now words) ⌝ }
+    ensures { λ _. ⌜ now (words .exit) ≡ wordsOf (now (bytes .entry)) ++ drop (length (now (bytes .entry)) / 8) (now (words .entry)) ⌝ }
+{
+    let n = bytes.len() / 8;
+    let mut i = 0;
+    while i < n {
+        words[i] = word_at(bytes, 8 * i);
         i += 1;
     }
 }

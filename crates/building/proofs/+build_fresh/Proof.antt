@@ -28,7 +28,7 @@ use Rattle.building.proofs.Trees as Trees
 use Rattle.building.proofs.build_fresh.Kinds as kinds
 use Rattle.building.proofs.build_fresh.Reads as build-fresh
 use Rattle.taking.proofs.child_touched.Reads as child-touched-reads
-use Rattle.taking.proofs.minus.Reads as minus-reads
+use Rattle.words.proofs.minus.Reads as minus-reads
 use Rattle.taking.proofs.part.Reads as part-reads
 use Rattle.taking.proofs.place.Reads as place-reads
 use Rattle.taking.proofs.pointer.Reads as pointer-reads

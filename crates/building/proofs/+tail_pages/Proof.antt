@@ -19,7 +19,7 @@ use Rattle.plans.proofs.link_on.Reads as link-on-reads
 use Rattle.taking.proofs.Taken as Taken
 use Rattle.taking.proofs.Tails as Tails
 use Rattle.building.proofs.build.Reads as build-reads
-use Rattle.taking.proofs.minus.Reads as minus-reads
+use Rattle.words.proofs.minus.Reads as minus-reads
 use Rattle.taking.proofs.part.Reads as part-reads
 use Rattle.building.proofs.+tail_pages.{statement}
 use Rattle.building.proofs.+tail_pages.Lts-tail_pages as lts

@@ -4,8 +4,7 @@ use native.Mathlib.Omega.{arith}
 use borrow.Author.Needs.{needs}
 use Rattle.model.specs.Layout.{layoutOf}
 use Rattle.words.proofs.Widths as Widths
-use Rattle.kinds.proofs.Figures.{reach}
-use Rattle.shadows.proofs.ReadyWrites.{height-low}
+use Rattle.kinds.proofs.Figures.{reach, height-low}
 use Rattle.planning.proofs.Lengths as Lengths
 use Rattle.planning.proofs.plan_length.Statement.{statement}
 use Rattle.planning.proofs.plan_length.Tie as tie

@@ -7,8 +7,7 @@ use borrow.Author.Needs.{needs}
 use Rattle.model.specs.declared.WalkEnd.{WalkEnd}
 use Rattle.model.specs.Layout.{layoutOf}
 use Rattle.model.specs.Change.{singleBlock}
-use Rattle.kinds.proofs.Figures.{reach, small-sizes}
-use Rattle.shadows.proofs.ReadyWrites.{height-low}
+use Rattle.kinds.proofs.Figures.{reach, small-sizes, height-low}
 use Rattle.planning.specs.Asked.{Growable}
 use Rattle.planning.proofs.Writes as Writes
 use Rattle.planning.proofs.plan_write.Statement.{statement}

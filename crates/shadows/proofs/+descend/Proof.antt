@@ -14,7 +14,7 @@ use Rattle.words.proofs.start_of.Reads as start-of-reads
 use Rattle.trees.proofs.Reaching.{lower}
 use Rattle.trees.proofs.span.Reads as span-reads
 use Rattle.plans.proofs.cell_on.Reads as cell-on-reads
-use Rattle.taking.proofs.minus.Reads as minus-reads
+use Rattle.words.proofs.minus.Reads as minus-reads
 use Rattle.shadows.proofs.Descents.{lies, at-data, at-null, at-wide, down}
 use Rattle.shadows.proofs.descend.Reads as descend
 use Rattle.shadows.proofs.descend.Kinds as kinds

@@ -21,7 +21,7 @@ use Rattle.plans.specs.Onto.{onto}
 use Rattle.plans.proofs.Laying as Laying
 use Rattle.plans.proofs.cell_on.Reads as cell-on-reads
 use Rattle.plans.proofs.pair.Reads as pair-reads
-use Rattle.taking.proofs.minus.Reads as minus-reads
+use Rattle.words.proofs.minus.Reads as minus-reads
 use Rattle.taking.proofs.Tails as Tails
 use Rattle.taking.proofs.part.Reads as part-reads
 use Rattle.taking.proofs.part_length.Reads as part-length-reads

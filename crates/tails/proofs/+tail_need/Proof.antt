@@ -14,7 +14,7 @@ use Rattle.trees.proofs.span.Reads as span-reads
 use Rattle.taking.specs.Taking.{TreeCount}
 use Rattle.taking.proofs.WholeTrees.{whole-small}
 use Rattle.taking.proofs.Tails as Tails
-use Rattle.taking.proofs.minus.Reads as minus-reads
+use Rattle.words.proofs.minus.Reads as minus-reads
 use Rattle.taking.proofs.part_length.Reads as part-length-reads
 use Rattle.taking.proofs.tree_need.Reads as tree-need-reads
 use Rattle.tails.proofs.Room.{tail-most}

@@ -1,0 +1,2 @@
+-- What the proofs of several functions use: where a file's inode stands.
+pub mod Inodes
