@@ -1,4 +1,6 @@
 // Fresh trees: the blocks on all paths to written bytes, and where these begin past the size, on the path to the last byte below it, laid into a plan.
+// A block has 2 ^ bits words. `board` is read with the growth `grown` performed; `free` lists the free blocks; c counts those taken; `base` is how many
+// pairs of the plan stand for no fresh block.
 use plans::Grown;
 use plans::link_on;
 use taking::child_touched;
@@ -23,9 +25,6 @@ ghost use Rattle.model.specs.InPlace.{tailNeed, tailPages};
 ghost use Rattle.trees.specs.Trees.{Reach};
 ghost use Rattle.plans.specs.Onto.{taking, onto, Pointers};
 ghost use Rattle.taking.specs.Taking.{Took};
-
-// A block has 2 ^ bits words. `board` is read with the growth `grown` performed; `free` lists the free blocks; c counts those taken; `base` is how many
-// pairs of the plan stand for no fresh block.
 
 // Lays the fresh blocks of the tree (h, k, n), its own among them, with `new` written at o. Answers how many are taken then. `pages` has room for a page
 // on each level. Off the plan a tree that is written from its start is only counted.

@@ -1,4 +1,5 @@
 // The calls that change a file: write and length change. Each reads the board and writes a plan; it stores nothing on the board. A plan is first worked
+// out on an empty part of the slice, for refusals 7 and 8, and then laid.
 use boards::last;
 use kinds::top_size;
 use model::Answer;
@@ -15,8 +16,6 @@ ghost use Rattle.kinds.specs.Figures.{Bits};
 ghost use Rattle.plans.specs.Laying.{PlanResult};
 ghost use Rattle.shadows.specs.Planning.{Pages};
 ghost use Rattle.planning.specs.Asked.{Stocked};
-
-// out on an empty part of the slice, for refusals 7 and 8, and then laid.
 
 // Write, where no refusal up to 6 turns it away and there is a byte to write: `free` lists the free blocks, `count` of them.
 fn write_some(

@@ -1,4 +1,4 @@
-// Ways 2 and 3 of planning a write, growth and a single word, and what the other ways use. The names of arguments are those of `taking`; each
+// Way 2 of planning a write, growth: whether it comes first, and its plan. The names of arguments are those of `taking`.
 use model::Inode;
 use model::Kind;
 use plans::Count;
@@ -18,8 +18,6 @@ ghost use Rattle.kinds.specs.Figures.{Bits};
 ghost use Rattle.plans.specs.Onto.{taking, Blocks};
 ghost use Rattle.taking.specs.Taking.{Took};
 ghost use Rattle.plans.specs.Laying.{PlanLaid};
-
-// answers how many pairs the plan has then and how many fresh blocks are taken.
 
 // Whether a write that ends at e makes a file's tree grow first.
 pub fn grows(kind: Kind, bits: u64, inode: Inode, e: u64) -> bool

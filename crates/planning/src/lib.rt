@@ -1,4 +1,5 @@
 // Plans of writes and length changes, once no refusal up to 6 turns the call away. `free` lists the free blocks; `pages` has room for a page on each level
+// of a tree.
 use boards::lent_inode;
 use boards::root_address;
 use growing::grow;
@@ -32,8 +33,6 @@ ghost use Rattle.plans.specs.Laying.{Laid, PlanLaid};
 ghost use Rattle.plans.specs.Onto.{taking};
 ghost use Rattle.shadows.specs.Planning.{Pages};
 ghost use Rattle.planning.specs.Asked.{File, Growable, Asked};
-
-// of a tree.
 
 // Plans growth, where it is due, and what follows on the grown board.
 fn plan_grown(

@@ -1,4 +1,5 @@
 // The shadows: a write within the size, committed at one pointer, and one that ends past it, committed at the inode pointer. The names of arguments are
+// those of `taking`.
 use building::build;
 use model::Inode;
 use model::Kind;
@@ -28,8 +29,6 @@ ghost use Rattle.plans.specs.Onto.{taking, onto, Pointers};
 ghost use Rattle.taking.specs.Taking.{Took};
 ghost use Rattle.plans.specs.Laying.{PlanLaid};
 ghost use Rattle.shadows.specs.Planning.{Descended, Ready};
-
-// those of `taking`.
 
 // Where a descent ends: the tree that is built anew, and the address of its pointer.
 pub struct Spot {

@@ -1,4 +1,5 @@
 // Writing at the end of a file in place: stores to words that exist. The names of arguments are those of `taking`; n is both the end of the tree's
+// visible bytes and the place where `new` is written. A block has 2 ^ bits words.
 use model::WalkEnd;
 use plans::Grown;
 use plans::cell_on;
@@ -24,8 +25,6 @@ ghost use Rattle.plans.specs.Laying.{Laid};
 ghost use Rattle.plans.specs.Onto.{Blocks, onto, Pointers};
 ghost use Rattle.taking.specs.Taking.{TreeCount};
 ghost use Rattle.tails.specs.Stores.{hooks, wordStores, padded};
-
-// visible bytes and the place where `new` is written. A block has 2 ^ bits words.
 
 // The walk to byte n of the tree (h, k, n), the first past its visible bytes, along live pointers: a hole where one of them is null.
 pub fn walk_live(

@@ -1,4 +1,6 @@
 // Blocks taken for a write: what of its bytes falls under a child, a block's words, its stores in the plan, which blocks of a tree are made fresh and how
+// many. A block has 2 ^ bits words. `board` is read with the growth `grown` performed; `free` lists the free blocks; c counts those taken; `base` is how
+// many pairs of the plan stand for no fresh block.
 use plans::Grown;
 use plans::block;
 use plans::link_on;
@@ -23,9 +25,6 @@ ghost use Rattle.words.specs.Width.{Width};
 ghost use Rattle.trees.specs.Trees.{Reach};
 ghost use Rattle.plans.specs.Onto.{Blocks, onto, Pointers};
 ghost use Rattle.taking.specs.Taking.{Took, PointerTo, splicedByte, SplicedByte, newStores, whole, TreeCount};
-
-// many. A block has 2 ^ bits words. `board` is read with the growth `grown` performed; `free` lists the free blocks; c counts those taken; `base` is how
-// many pairs of the plan stand for no fresh block.
 
 // Of the bytes written at o, those that fall under child j, each child spanning s bytes.
 pub fn part<'a>(new: &'a [u8], s: u64, j: u64, o: u64) -> &'a [u8]

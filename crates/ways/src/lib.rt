@@ -1,4 +1,4 @@
-// The tail way, and the choice among ways 4 to 6; `shadows` has the other two. The names of arguments are those of `taking`.
+// A single word, the tail way, and the choice among ways 4 to 6; `shadows` has the other two. The names of arguments are those of `taking`.
 use building::build;
 use building::tail_pages;
 use kinds::height_in;
