@@ -34,6 +34,7 @@ pub record NotGrown (g : Grown) : Type 0 where
   pub none : g .levels ≡ 0
   pub off : g .at ≡ 2 ^ 64 - 1
   pub null : g .below ≡ 0
+  pub first : g .base ≡ 0
 
 -- the pointers that growth stores are words
 pub record Pointers (bits : ℕ) (free : List ℕ) (g : Grown) : Type 0 where

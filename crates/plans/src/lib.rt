@@ -74,12 +74,14 @@ pub struct Count {
     pub taken: u64,
 }
 
-// Growth that is planned and not performed yet: `levels` fresh blocks over block `below`, the first free ones, and the root word at address `at`.
+// Growth that is planned and not performed yet: `levels` fresh blocks over block `below`, the first free ones, and the root word at address `at`. `base`
+// is how many pairs of the plan then stand for no fresh block.
 pub struct Grown {
     pub below: u64,
     pub levels: u64,
     pub at: u64,
     pub root: u64,
+    pub base: u64,
 }
 
 // No growth: the address is on no board.
@@ -91,6 +93,7 @@ pub fn not_grown() -> Grown
         levels: 0,
         at: 18446744073709551615,
         root: 0,
+        base: 0,
     }
 }
 

@@ -1,10 +1,10 @@
 // Blocks taken for a write: what of its bytes falls under a child, a block's words, its stores in the plan, which blocks of a tree are made fresh and how
-// many. A block has 2 ^ bits words. `board` is read with the growth `grown` performed; `free` lists the free blocks; c counts those taken; `base` is how
-// many pairs of the plan stand for no fresh block.
+// many. A block has 2 ^ bits words. `board` is read with the growth `grown` performed; `free` lists the free blocks; c counts those taken.
 use plans::Grown;
 use plans::block;
 use plans::link_on;
 use plans::pair;
+use trees::Tree;
 use trees::span;
 use words::byte;
 use words::minus;
@@ -25,6 +25,13 @@ ghost use Rattle.words.specs.Width.{Width};
 ghost use Rattle.trees.specs.Trees.{Reach};
 ghost use Rattle.plans.specs.Onto.{Blocks, onto, Pointers};
 ghost use Rattle.taking.specs.Taking.{Took, PointerTo, splicedByte, SplicedByte, newStores, whole, TreeCount};
+
+// Bytes written at `offset` of a tree, `taken` blocks being taken before.
+pub struct Under {
+    pub tree: Tree,
+    pub offset: u64,
+    pub taken: u64,
+}
 
 // Of the bytes written at o, those that fall under child j, each child spanning s bytes.
 pub fn part<'a>(new: &'a [u8], s: u64, j: u64, o: u64) -> &'a [u8]
@@ -95,22 +102,27 @@ pub fn spliced(x: u64, n: u64, o: u64, new: &[u8], j: u64) -> u64
     value
 }
 
-// Word j of data block k with `new` written at o.
+// Word j of the data block of a tree with `new` written at o.
 pub fn data_word(
     bits: u64,
     board: &[u64],
     grown: Grown,
     free: &[u64],
-    k: u64,
-    n: u64,
+    tree: Tree,
     o: u64,
     new: &[u8],
     j: u64,
 ) -> u64
     requires { ⌜ Pointers bits (now free) grown × (j ≤ 512) ⌝ }
-    ensures { λ r. ⌜ r ≡ dataPage (2 ^ bits) (onto (2 ^ bits) (now (free .entry)) (now (board .entry)) grown) k n o (now (new .entry)) j ⌝ }
+    ensures { λ r. ⌜ r ≡ dataPage (2 ^ bits) (onto (2 ^ bits) (now (free .entry)) (now (board .entry)) grown) (tree .block) (tree .left) o (now (new .entry)) j ⌝ }
 {
-    spliced(link_on(bits, board, grown, free, k, j), n, o, new, j)
+    spliced(
+        link_on(bits, board, grown, free, tree.block, j),
+        tree.left,
+        o,
+        new,
+        j,
+    )
 }
 
 // Where the stores of the block that is taken c-th stand in the plan.
@@ -162,25 +174,23 @@ fn lay_new(bits: u64, plan: &mut [u64], p: u64, to: u64, new: &[u8])
     }
 }
 
-// Takes the next free block for data block k with `new` written at o. Off the plan no word is worked out.
+// Takes the next free block for the data block of a tree, with `new` written. Off the plan no word is worked out.
 pub fn take_data(
     bits: u64,
     board: &[u64],
     grown: Grown,
     free: &[u64],
     plan: &mut [u64],
-    base: u64,
-    k: u64,
-    n: u64,
-    o: u64,
+    under: Under,
     new: &[u8],
-    c: u64,
 ) -> u64
-    requires { ⌜ Pointers bits (now free) grown × (base + 2 ^ bits * (c + 1) ≤ 2 ^ 32) ⌝ }
-    ensures { λ r. ⌜ Took (2 ^ bits) (now (free .entry)) (now (plan .entry)) base c
-        (dataPage (2 ^ bits) (onto (2 ^ bits) (now (free .entry)) (now (board .entry)) grown) k n o (now (new .entry)) ∷ []) (now (plan .exit)) r ⌝ }
+    requires { ⌜ Pointers bits (now free) grown × (grown .base + 2 ^ bits * (under .taken + 1) ≤ 2 ^ 32) ⌝ }
+    ensures { λ r. ⌜ Took (2 ^ bits) (now (free .entry)) (now (plan .entry)) (grown .base) (under .taken)
+        (dataPage (2 ^ bits) (onto (2 ^ bits) (now (free .entry)) (now (board .entry)) grown) (under .tree .block) (under .tree .left) (under .offset) (now (new .entry)) ∷ []) (now (plan .exit)) r ⌝ }
 {
-    let p = place(bits, base, c);
+    let c = under.taken;
+    let o = under.offset;
+    let p = place(bits, grown.base, c);
     if plan.len() as u64 <= p {
         return c + 1;
     }
@@ -196,18 +206,20 @@ pub fn take_data(
             plan,
             p + j,
             to + j,
-            data_word(bits, board, grown, free, k, n, o, new, j),
+            data_word(bits, board, grown, free, under.tree, o, new, j),
         );
         j += 1;
     }
     c + 1
 }
 
-// Whether the block of the tree (h, k, n) is made fresh when l bytes are written at o.
-pub fn touched(bits: u64, h: u64, k: u64, n: u64, o: u64, l: u64) -> bool
-    requires { ⌜ Reach bits h ⌝ }
-    ensures { λ r. ⌜ r ≡ touched (2 ^ bits) h k n o l ⌝ }
+// Whether the block of a tree is made fresh when l bytes are written at o.
+pub fn touched(bits: u64, tree: Tree, o: u64, l: u64) -> bool
+    requires { ⌜ Reach bits (tree .height) ⌝ }
+    ensures { λ r. ⌜ r ≡ touched (2 ^ bits) (tree .height) (tree .block) (tree .left) o l ⌝ }
 {
+    let k = tree.block;
+    let n = tree.left;
     if l != 0 {
         return true;
     }
@@ -220,16 +232,16 @@ pub fn touched(bits: u64, h: u64, k: u64, n: u64, o: u64, l: u64) -> bool
     if n == 0 {
         return false;
     }
-    n <= span(bits, h)
+    n <= span(bits, tree.height)
 }
 
 // The same for a child. `gap` says whether o lies past n in the tree above it: where it does not, as in most writes, only written bytes count.
-pub fn child_touched(gap: bool, bits: u64, h: u64, k: u64, n: u64, o: u64, l: u64) -> bool
-    requires { ⌜ Reach bits h × (gap ≡ false → o ≤ n) ⌝ }
-    ensures { λ r. ⌜ r ≡ touched (2 ^ bits) h k n o l ⌝ }
+pub fn child_touched(gap: bool, bits: u64, tree: Tree, o: u64, l: u64) -> bool
+    requires { ⌜ Reach bits (tree .height) × (gap ≡ false → o ≤ tree .left) ⌝ }
+    ensures { λ r. ⌜ r ≡ touched (2 ^ bits) (tree .height) (tree .block) (tree .left) o l ⌝ }
 {
     if gap {
-        return touched(bits, h, k, n, o, l);
+        return touched(bits, tree, o, l);
     }
     l != 0
 }

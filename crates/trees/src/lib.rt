@@ -1,5 +1,6 @@
 // Trees of blocks: the walk to a byte, the crawl that marks live blocks, and their count. A tree is (h, k, n), as in the
-// definitions: its height, its block, and how many of its bytes lie below the file's size. A block has 2 ^ bits words.
+// definitions: its height, its block, and how many of its bytes lie below the file's size. A block has 2 ^ bits words. The walk and the crawl
+// take the three as numbers, which stay in registers; a struct is laid in memory for each call.
 use model::WalkEnd;
 use words::block_of;
 use words::cell;
@@ -15,6 +16,13 @@ ghost use Rattle.model.specs.Tree.{ending, walk};
 ghost use Rattle.model.specs.Board.{rootWalk};
 ghost use Rattle.trees.specs.Trees.{Reach, Spanned, Crawled, Counted};
 ghost use Rattle.trees.specs.Marks.{Marked};
+
+// A tree (h, k, n), as functions of many arguments take it.
+pub struct Tree {
+    pub height: u64,
+    pub block: u64,
+    pub left: u64,
+}
 
 // The bytes that a tree of height h spans. A shift, since a walk divides by it.
 pub fn span(bits: u64, h: u64) -> u64

@@ -37,7 +37,7 @@ use Rattle.taking.proofs.take_data.Reads as take-data-reads
 use Rattle.taking.proofs.tree_need.Reads as tree-need-reads
 
 abbrev μ : Measures 5 kinds.ps ℕ
-μ κs a = a .1 .1 .1 .1 .1 .1 .1 .0
+μ κs a = a .1 .1 .1 .1 .1 .1 .0 .tree .height
 
 abbrev at : ℕ → In 5 kinds.ps
 at t = and 5 kinds.ps (is 5 kinds.ps μ t) build-fresh.Pre
@@ -82,11 +82,11 @@ first-fits : (W base c m : ℕ) → base + W * (c + m) ≤ 2 ^ 32 → 0 < m → 
 first-fits W base c m l p = let q : c + 1 ≤ c + m = omega arith in omega (arith, mul-le-mul-left W q)
 
 abbrev Inv-loop : lts.InvT-loop
-Inv-loop bits board grown free plan₀ pages₀ base h k n o new c g s w rest gap taken₀ j₀ plan pages taken j =
-    (j ≤ w) × (length pages ≡ length pages₀) × Trees.Children (2 ^ bits) (pow-pos bits) free (onto (2 ^ bits) free board grown) (h - 1) k n o new plan₀ base c j plan pages taken
+Inv-loop bits board grown free plan₀ pages₀ new h k n o c g s w rest gap taken₀ j₀ plan pages taken j =
+    (j ≤ w) × (length pages ≡ length pages₀) × Trees.Children (2 ^ bits) (pow-pos bits) free (onto (2 ^ bits) free board grown) (h - 1) k n o new plan₀ (grown .base) c j plan pages taken
 
 abbrev μ-loop : lts.MeasureT-loop
-μ-loop bits board grown free plan₀ pages₀ base h k n o new c g s w rest gap taken₀ j₀ plan pages taken j = w - j
+μ-loop bits board grown free plan₀ pages₀ new h k n o c g s w rest gap taken₀ j₀ plan pages taken j = w - j
 
 module _ (t : ℕ) where
   abbrev N : (lts.Claims → In 5 kinds.ps → Out 5 kinds.ps kinds.r → lts.InvT-loop → lts.MeasureT-loop → Type 0) → Type 0
@@ -103,14 +103,14 @@ module _ (t : ℕ) where
   found c = c .before .before .before .before .before .before .before
 
   -- the first block of the tree fits
-  fits : (c : N lts.Start) → let x = c .args in x .base + 2 ^ x .bits * (x .c + 1) ≤ 2 ^ 32
+  fits : (c : N lts.Start) → let x = c .args in x .grown .base + 2 ^ x .bits * (x .under .taken + 1) ≤ 2 ^ 32
   fits c = let x = c .args in
-      first-fits _ (x .base) (x .c) _ (c .pre .1 .4) (fresh-pos (2 ^ x .bits) (onto (2 ^ x .bits) (x .free .now) (x .board .now) (x .grown)) (x .h) (x .k) (x .n) (x .o) (length (x .new .now)) (c .pre .1 .3))
+      first-fits _ (x .grown .base) (x .under .taken) _ (c .pre .1 .4) (fresh-pos (2 ^ x .bits) (onto (2 ^ x .bits) (x .free .now) (x .board .now) (x .grown)) (x .under .tree .height) (x .under .tree .block) (x .under .tree .left) (x .under .offset) (length (x .new .now)) (c .pre .1 .3))
 
   -- a page for this level, and those of the levels below it
-  room : (c : N lts.At-loop) → let s = start (placed c) in c .before .width .result + 2 ^ s .args .bits * (s .args .h - 1) ≤ length (c .loop .pages)
+  room : (c : N lts.At-loop) → let s = start (placed c) in c .before .width .result + 2 ^ s .args .bits * (s .args .under .tree .height - 1) ≤ length (c .loop .pages)
   room c = let p = placed c in let s = start p in
-      omega (arith, Trees.page-room (2 ^ s .args .bits) (s .args .h) (length (s .args .pages .now)) (p .before .if1 .left) (s .pre .1 .2), c .before .width .ensures .is, c .loop .inv .1)
+      omega (arith, Trees.page-room (2 ^ s .args .bits) (s .args .under .tree .height) (length (s .args .pages .now)) (p .before .if1 .left) (s .pre .1 .2), c .before .width .ensures .is, c .loop .inv .1)
 
   take-data-requires : N lts.Need-take-data-requires
   take-data-requires c κs = let s = c .before .before .before .before .before .before .before in (s .pre .1 .1, fits s)
@@ -123,7 +123,7 @@ module _ (t : ℕ) where
   place-requires c κs = let s = c .before .before .before .before .before .before in (s .pre .1 .0 .width, omega (arith, fits s))
 
   add-result : N lts.Need-add-result
-  add-result c = let s = start (c .before .before .before) in omega (arith, c .tree-need .ensures .most, s .pre .1 .0 .spans, Taken.count-small (s .args .base) (s .args .c + 1) (s .pre .1 .0 .width) (fits s))
+  add-result c = let s = start (c .before .before .before) in omega (arith, c .tree-need .ensures .most, s .pre .1 .0 .spans, Taken.count-small (s .args .grown .base) (s .args .under .taken + 1) (s .pre .1 .0 .width) (fits s))
 
   returns-2 : N lts.Need-returns-2
   returns-2 c = let o = c .before .before in Trees.counted (pow-pos _) _ _ _ _ _ _ (o .before .place .ensures) (o .if2 .taken) (c .before .if3 .taken) (c .tree-need .ensures .is)
@@ -142,7 +142,7 @@ module _ (t : ℕ) where
 
   child-touched-requires : N lts.Need-child-touched-requires
   child-touched-requires c κs = let m = c .before .before .before in let s = start (placed (m .before .before .before)) in
-      (lower (s .pre .1 .0), λ none. omega (arith, ltb-false (s .args .n) (s .args .o) none, m .before .minus .ensures, m .minus2 .ensures))
+      (lower (s .pre .1 .0), λ none. omega (arith, ltb-false (s .args .under .tree .left) (s .args .under .offset) none, m .before .minus .ensures, m .minus2 .ensures))
 
   build-fresh-requires : N lts.Need-build-fresh-requires
   build-fresh-requires c κs =

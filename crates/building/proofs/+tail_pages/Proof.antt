@@ -29,7 +29,7 @@ use Rattle.building.proofs.tail_pages.Kinds as kinds
 use Rattle.building.proofs.tail_pages.Reads as tail-pages
 
 abbrev μ : Measures 5 kinds.ps ℕ
-μ κs a = a .1 .1 .1 .1 .1 .1 .1 .0
+μ κs a = a .1 .1 .1 .1 .1 .1 .0 .tree .height
 
 abbrev at : ℕ → In 5 kinds.ps
 at t = and 5 kinds.ps (is 5 kinds.ps μ t) tail-pages.Pre
@@ -58,11 +58,11 @@ known t = (
 )
 
 abbrev Inv-loop : lts.InvT-loop
-Inv-loop bits board grown free plan₀ pages₀ base h k n new c s w taken₀ j₀ plan pages taken j =
-    (j ≤ w) × (length pages ≡ length pages₀) × TailPages.Paged (2 ^ bits) (onto (2 ^ bits) free board grown) free (h - 1) k n new c base j plan₀ plan taken
+Inv-loop bits board grown free plan₀ pages₀ new h k n c g s w taken₀ j₀ plan pages taken j =
+    (j ≤ w) × (length pages ≡ length pages₀) × TailPages.Paged (2 ^ bits) (onto (2 ^ bits) free board grown) free (h - 1) k n new c (grown .base) j plan₀ plan taken
 
 abbrev μ-loop : lts.MeasureT-loop
-μ-loop bits board grown free plan₀ pages₀ base h k n new c s w taken₀ j₀ plan pages taken j = w - j
+μ-loop bits board grown free plan₀ pages₀ new h k n c g s w taken₀ j₀ plan pages taken j = w - j
 
 module _ (t : ℕ) where
   abbrev N : (lts.Claims → In 5 kinds.ps → Out 5 kinds.ps kinds.r → lts.InvT-loop → lts.MeasureT-loop → Type 0) → Type 0
@@ -73,16 +73,16 @@ module _ (t : ℕ) where
     s .pre .1 .0,
     s .pre .1 .1,
     s .pre .1 .2,
-    rw (fresh-quiet (2 ^ a .bits) (onto (2 ^ a .bits) (a .free .now) (a .board .now) (a .grown)) (a .h) 0 0 0 (length (a .new .now)) (inl refl), ← Tails.need-dead (2 ^ a .bits) (a .h) (a .n) (length (a .new .now)) (c .before .before .if1 .taken)) (s .pre .1 .3),
+    rw (fresh-quiet (2 ^ a .bits) (onto (2 ^ a .bits) (a .free .now) (a .board .now) (a .grown)) (a .under .tree .height) 0 0 0 (length (a .new .now)) (inl refl), ← Tails.need-dead (2 ^ a .bits) (a .under .tree .height) (a .under .tree .left) (length (a .new .now)) (c .before .before .if1 .taken)) (s .pre .1 .3),
   )
 
   returns : N lts.Need-returns
   returns c = let u = c .before .before .before .before .before .before .before in let a = u .before .before .before .before .before .before .args in
-      TailPages.took-dead (2 ^ a .bits) (onto (2 ^ a .bits) (a .free .now) (a .board .now) (a .grown)) (a .free .now) (a .h) (a .k) (a .n) (a .new .now) (u .if1 .taken) (c .before .before .before .before .build .ensures)
+      TailPages.took-dead (2 ^ a .bits) (onto (2 ^ a .bits) (a .free .now) (a .board .now) (a .grown)) (a .free .now) (a .under .tree .height) (a .under .tree .block) (a .under .tree .left) (a .new .now) (u .if1 .taken) (c .before .before .before .before .build .ensures)
 
   returns-2 : N lts.Need-returns-2
   returns-2 c = let a = c .before .before .before .before .before .before .before .args in
-      TailPages.took-leaf (2 ^ a .bits) (onto (2 ^ a .bits) (a .free .now) (a .board .now) (a .grown)) (a .free .now) (a .h) (a .k) (a .n) (a .new .now) (c .if2 .taken) (c .before .if1 .left)
+      TailPages.took-leaf (2 ^ a .bits) (onto (2 ^ a .bits) (a .free .now) (a .board .now) (a .grown)) (a .free .now) (a .under .tree .height) (a .under .tree .block) (a .under .tree .left) (a .new .now) (c .if2 .taken) (c .before .if1 .left)
 
   span-requires : N lts.Need-span-requires
   span-requires c κs = lower (c .before .before .before .before .before .before .before .pre .1 .0)
@@ -94,14 +94,14 @@ module _ (t : ℕ) where
   part-requires c κs = (omega (arith, c .before .before .before .span .ensures .high), omega (arith, c .before .before .width .ensures .most))
 
   mul-minus : N lts.Need-mul-minus
-  mul-minus c = omega (arith, mul-le-mul (c .before .before .before .before .before .before .loop-test .taken) (c .before .before .before .before .before .before .before .before .before .span .ensures .high))
+  mul-minus c = let l = c .before .before .before .before in omega (arith, mul-le-mul (l .loop-test .taken) (l .before .before .before .span .ensures .high))
 
   tail-pages-requires : N lts.Need-tail-pages-requires
   tail-pages-requires c κs = let u = c .before .before .before .before .before .before in let l = u .before .before in let v = l .before .before .before in
       let s = v .before .before .before .before .before .before .before in let a = s .args in let W = 2 ^ a .bits in
-      let fits = TailPages.pages-room (pow-pos (a .bits)) (l .loop .inv .2) (l .before .before .span .ensures .is) (u .part .ensures) (omega (arith, u .before .loop-test .taken, l .before .width .ensures .is)) (c .minus .ensures) in
-      let need = Tails.need-tree W (a .h) (a .n) (length (a .new .now)) (v .if2 .left) (v .before .if1 .left) in
-      let low : a .h - 1 ≤ a .h = omega arith in
+      let fits = TailPages.pages-room (pow-pos (a .bits)) (l .loop .inv .2) (l .before .before .span .ensures .is) (u .part .ensures) (omega (arith, u .before .loop-test .taken, l .before .width .ensures .is)) (c .before .before .minus .ensures) in
+      let need = Tails.need-tree W (a .under .tree .height) (a .under .tree .left) (length (a .new .now)) (v .if2 .left) (v .before .if1 .left) in
+      let low : a .under .tree .height - 1 ≤ a .under .tree .height = omega arith in
       (omega (arith, s .pre .0), (lower (s .pre .1 .0), s .pre .1 .1, omega (arith, s .pre .1 .2, l .loop .inv .1, mul-le-mul-left W low), omega (arith, mul-le-mul-left W fits, rw need at (s .pre .1 .3))))
 
   loop-again : N lts.Need-loop-again
@@ -111,7 +111,7 @@ module _ (t : ℕ) where
       (λ w. rw (w .11, w .12, w .13) (
         omega arith,
         w .6 .kept .1 .1 .1 .1 .1 .0 ∙ l .loop .inv .1,
-        TailPages.pages-step pos (l .loop .inv .2) size own (w .1 .ensures) (w .4 .ensures) (w .5 .ensures) (w .6 .ensures),
+        TailPages.pages-step pos (l .loop .inv .2) size own (w .1 .ensures) (w .2 .ensures) (w .3 .ensures) (w .6 .ensures),
       ))
       (λ w. rw (w .1, w .2, w .3) (omega arith, l .loop .inv .1, TailPages.pages-skip pos (l .loop .inv .2) size own (w .0 .left)))
       (c .if3 .came)
@@ -124,7 +124,7 @@ module _ (t : ℕ) where
 
   returns-3 : N lts.Need-returns-3
   returns-3 c = let l = c .before in let v = l .before .before .before in let a = v .before .before .before .before .before .before .before .args in
-      TailPages.took-tree (2 ^ a .bits) (onto (2 ^ a .bits) (a .free .now) (a .board .now) (a .grown)) (a .free .now) (a .h) (a .k) (a .n) (a .new .now)
+      TailPages.took-tree (2 ^ a .bits) (onto (2 ^ a .bits) (a .free .now) (a .board .now) (a .grown)) (a .free .now) (a .under .tree .height) (a .under .tree .block) (a .under .tree .left) (a .new .now)
       (v .if2 .left) (v .before .if1 .left) (omega (arith, l .before .width .ensures .is)) (l .loop .inv .2)
 
 pub +tail-pages-spec : {M : Type 1} → statement M
@@ -140,7 +140,6 @@ pub +tail-pages-spec : {M : Type 1} → statement M
     (loop-holds t)
     (part-requires t)
     (λ c κs. search needs)
-    (λ c. omega arith)
     (λ c κs. search needs)
     (mul-minus t)
     (λ c κs. search needs)

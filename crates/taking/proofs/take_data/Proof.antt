@@ -15,11 +15,11 @@ use Rattle.taking.proofs.take_data.Statement.{statement}
 use Rattle.taking.proofs.take_data.Tie as tie
 
 abbrev Inv-loop : tie.InvT-loop
-Inv-loop bits board grown free plan₀ base k n o new c p to w j₀ plan j =
-    (j ≤ w) × (plan ≡ laid plan₀ p (tabulate j (λ i. store (to + i) (dataPage (2 ^ bits) (onto (2 ^ bits) free board grown) k n o new i))))
+Inv-loop bits board grown free plan₀ under new c o p to w j₀ plan j =
+    (j ≤ w) × (plan ≡ laid plan₀ p (tabulate j (λ i. store (to + i) (dataPage (2 ^ bits) (onto (2 ^ bits) free board grown) (under .tree .block) (under .tree .left) (under .offset) new i))))
 
 abbrev μ-loop : tie.MeasureT-loop
-μ-loop bits board grown free plan₀ base k n o new c p to w j₀ plan j = w - j
+μ-loop bits board grown free plan₀ under new c o p to w j₀ plan j = w - j
 
 -- from where the block's pointer is known to the start, and from the loop to there
 abbrev start : tie.After-pointer Inv-loop μ-loop → tie.Start Inv-loop μ-loop
@@ -29,8 +29,8 @@ abbrev pointed : tie.At-loop Inv-loop μ-loop → tie.After-pointer Inv-loop μ-
 pointed c = c .before .before .before .before
 
 -- one block more is a word
-count : (s : tie.Start Inv-loop μ-loop) → s .args .c + 1 ≤ 2 ^ 29
-count s = Taken.count-small (s .args .base) (s .args .c + 1) (s .pre .0 .width) (s .pre .1)
+count : (s : tie.Start Inv-loop μ-loop) → s .args .under .taken + 1 ≤ 2 ^ 29
+count s = Taken.count-small (s .args .grown .base) (s .args .under .taken + 1) (s .pre .0 .width) (s .pre .1)
 
 place-requires : tie.Need-place-requires Inv-loop μ-loop
 place-requires c κs = let s = c .before .before .before .before in (s .pre .0 .width, omega (arith, s .pre .1))
@@ -48,7 +48,7 @@ all-written-requires : tie.Need-all-written-requires Inv-loop μ-loop
 all-written-requires c κs = start c .pre .0 .width
 
 -- the new bytes are the whole block
-whole : (c : tie.Then2 Inv-loop μ-loop) → let a = start (c .before .before) .args in (a .o ≡ 0) × (length (a .new .now) ≡ 8 * 2 ^ a .bits)
+whole : (c : tie.Then2 Inv-loop μ-loop) → let a = start (c .before .before) .args in (a .under .offset ≡ 0) × (length (a .new .now) ≡ 8 * 2 ^ a .bits)
 whole c = all-of _ _ _ (sym (c .if2 .taken) ∙ c .before .all-written .ensures)
 
 lay-new-requires : tie.Need-lay-new-requires Inv-loop μ-loop
@@ -65,7 +65,7 @@ add-result-2 c = omega (arith, count (start (c .before .before .before .before .
 returns-2 : tie.Need-returns-2 Inv-loop μ-loop
 returns-2 c = let t = c .before .before .before .before in let p = t .before .before in let a = start p .args in
     Taken.one (p .before .before .place .ensures) (p .pointer .ensures .is)
-    (c .before .before .lay-new .ensures ∙ ap (laid (a .plan .now) (p .before .before .place .result)) (new-page (2 ^ a .bits) (onto (2 ^ a .bits) (a .free .now) (a .board .now) (a .grown)) (p .pointer .result) (a .k) (a .n) (a .new .now) (whole t .0) (whole t .1)))
+    (c .before .before .lay-new .ensures ∙ ap (laid (a .plan .now) (p .before .before .place .result)) (new-page (2 ^ a .bits) (onto (2 ^ a .bits) (a .free .now) (a .board .now) (a .grown)) (p .pointer .result) (a .under .tree .block) (a .under .tree .left) (a .new .now) (whole t .0) (whole t .1)))
 
 loop-holds : tie.Need-loop-holds Inv-loop μ-loop
 unfolding tabulate

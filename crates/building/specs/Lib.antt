@@ -1,0 +1,2 @@
+-- What is built for bytes written under a tree.
+pub mod Building
