@@ -11,6 +11,7 @@ use taking::part;
 use taking::part_length;
 use taking::pointer;
 use taking::tree_need;
+use trees::Tree;
 use trees::span;
 use words::block_of;
 use words::minus;
@@ -18,13 +19,13 @@ use words::start_of;
 use words::width;
 ghost use mathlib.Core.Path.{_≡_};
 ghost use Prim.Native.Nat.{_+_, _*_, _^_, _≤_, _<_};
-ghost use lib.ListN.{length, replicate};
-ghost use Rattle.model.specs.InPlace.{tailNeed, walkLive, inPlace};
+ghost use lib.ListN.{length};
+ghost use Rattle.model.specs.InPlace.{tailNeed, walkLive};
 ghost use Rattle.trees.specs.Trees.{Reach};
 ghost use Rattle.plans.specs.Laying.{Laid};
 ghost use Rattle.plans.specs.Onto.{Blocks, onto, Pointers};
 ghost use Rattle.taking.specs.Taking.{TreeCount};
-ghost use Rattle.tails.specs.Stores.{hooks, wordStores, padded};
+ghost use Rattle.tails.specs.Stores.{hooks, wordsAt, storesAt, clearedAt};
 
 // The walk to byte n of the tree (h, k, n), the first past its visible bytes, along live pointers: a hole where one of them is null.
 pub fn walk_live(
@@ -55,7 +56,15 @@ pub fn walk_live(
     WalkEnd::Block(k)
 }
 
-// Lays the words of data block k that hold some of l bytes written at its end, from place p on: `new` is what is written, and zeros behind it. Answers
+// Bytes written at the end of a tree whose pointer stands at address `at`: how many, and how many blocks are taken before.
+pub struct End {
+    pub tree: Tree,
+    pub at: u64,
+    pub length: u64,
+    pub taken: u64,
+}
+
+// Lays the words of a data block that hold some of the bytes written at its end, from place p on: `new` is what is written, and zeros behind it. Answers
 // the next place.
 fn tail_words(
     bits: u64,
@@ -64,21 +73,21 @@ fn tail_words(
     free: &[u64],
     plan: &mut [u64],
     p: u64,
-    k: u64,
-    n: u64,
-    l: u64,
+    end: End,
     new: &[u8],
 ) -> u64
-    requires { ⌜ Pointers bits (now free) grown × (2 ^ bits * k + 2 ^ bits ≤ 2 ^ 64) × (p + length (wordStores (2 ^ bits) (onto (2 ^ bits) (now free) (now board) grown) k n l (now new)) ≤ 2 ^ 32) ⌝ }
-    ensures { λ r. ⌜ Laid (now (plan .entry)) p (wordStores (2 ^ bits) (onto (2 ^ bits) (now (free .entry)) (now (board .entry)) grown) k n l (now (new .entry))) (now (plan .exit)) r ⌝ }
+    requires { ⌜ Pointers bits (now free) grown × (2 ^ bits * end .tree .block + 2 ^ bits ≤ 2 ^ 64) × (p + length (wordsAt bits (now board) (now free) grown end (now new)) ≤ 2 ^ 32) ⌝ }
+    ensures { λ r. ⌜ Laid (now (plan .entry)) p (wordsAt bits (now (board .entry)) (now (free .entry)) grown end (now (new .entry))) (now (plan .exit)) r ⌝ }
 {
+    let n = end.tree.left;
+    let l = end.length;
     let w = width(bits);
-    let to = start_of(bits, k);
+    let to = start_of(bits, end.tree.block);
     let mut q = p;
     let mut j = 0;
     while j < w {
         if part_length(8, j, n, l) != 0 {
-            let value = data_word(bits, board, grown, free, k, n, n, new, j);
+            let value = data_word(bits, board, grown, free, end.tree, n, new, j);
             pair(plan, q, to + j, value);
             q += 1;
         }
@@ -122,8 +131,7 @@ fn hook(bits: u64, free: &[u64], h: u64, l: u64, c: u64) -> u64
     pointer(bits, free, taken - 1)
 }
 
-// Lays the stores to words that exist, from place p on, for the tree (h, k, n) whose pointer stands at address a. `new` is written at n, and zeros behind
-// it up to l bytes. Answers the next place.
+// Lays the stores to words that exist, from place p on, where bytes are written at the end of a tree: `new`, and zeros behind it. Answers the next place.
 pub fn in_place(
     bits: u64,
     board: &[u64],
@@ -131,19 +139,19 @@ pub fn in_place(
     free: &[u64],
     plan: &mut [u64],
     p: u64,
-    h: u64,
-    k: u64,
-    n: u64,
-    l: u64,
+    end: End,
     new: &[u8],
-    c: u64,
-    a: u64,
 ) -> u64
-    requires { ⌜ Reach bits h × (2 ^ bits * k + 2 ^ bits ≤ 2 ^ 64) × Pointers bits (now free) grown × (length (now new) ≤ l) × (c + tailNeed (2 ^ bits) h n l ≤ 2 ^ 32)
-        × (p + length (inPlace (2 ^ bits) (onto (2 ^ bits) (now free) (now board) grown) (hooks (2 ^ bits) (now free)) h k n (padded l (now new)) c a) ≤ 2 ^ 32) ⌝ }
-    ensures { λ r. ⌜ Laid (now (plan .entry)) p
-        (inPlace (2 ^ bits) (onto (2 ^ bits) (now (free .entry)) (now (board .entry)) grown) (hooks (2 ^ bits) (now (free .entry))) h k n (padded l (now (new .entry))) c a) (now (plan .exit)) r ⌝ }
+    requires { ⌜ Reach bits (end .tree .height) × (2 ^ bits * end .tree .block + 2 ^ bits ≤ 2 ^ 64) × Pointers bits (now free) grown × (length (now new) ≤ end .length)
+        × (end .taken + tailNeed (2 ^ bits) (end .tree .height) (end .tree .left) (end .length) ≤ 2 ^ 32) × (p + length (storesAt bits (now board) (now free) grown end (now new)) ≤ 2 ^ 32) ⌝ }
+    ensures { λ r. ⌜ Laid (now (plan .entry)) p (storesAt bits (now (board .entry)) (now (free .entry)) grown end (now (new .entry))) (now (plan .exit)) r ⌝ }
 {
+    let h = end.tree.height;
+    let k = end.tree.block;
+    let n = end.tree.left;
+    let l = end.length;
+    let c = end.taken;
+    let a = end.at;
     if n == 0 {
         if l == 0 {
             return p;
@@ -155,7 +163,7 @@ pub fn in_place(
         return p;
     }
     if h == 0 {
-        return tail_words(bits, board, grown, free, plan, p, k, n, l, new);
+        return tail_words(bits, board, grown, free, plan, p, end, new);
     }
     let s = span(bits, h - 1);
     let w = width(bits);
@@ -163,28 +171,25 @@ pub fn in_place(
     let mut taken = c;
     let mut q = p;
     let mut j = 0;
-    // Child j is the tree (h - 1, below, left); it gets `own`, and zeros behind it up to `most` bytes.
+    // Child j gets `own`, and zeros behind it up to `most` bytes.
     while j < w {
         let most = part_length(s, j, n, l);
         if most != 0 {
             let own = part(new, s, j, n);
-            let below = block_of(bits, cell_on(bits, board, grown, free, k, j));
+            let block = block_of(bits, cell_on(bits, board, grown, free, k, j));
             let left = minus(n, j * s);
-            q = in_place(
-                bits,
-                board,
-                grown,
-                free,
-                plan,
-                q,
-                h - 1,
-                below,
-                left,
-                most,
-                own,
-                taken,
-                to + j,
-            );
+            let child = Tree {
+                height: h - 1,
+                block: block,
+                left: left,
+            };
+            let below = End {
+                tree: child,
+                at: to + j,
+                length: most,
+                taken: taken,
+            };
+            q = in_place(bits, board, grown, free, plan, q, below, own);
             taken += tail_need(bits, h - 1, left, most);
         }
         j += 1;
@@ -198,17 +203,21 @@ pub fn clear_in_place(
     board: &[u64],
     plan: &mut [u64],
     p: u64,
-    h: u64,
-    k: u64,
-    n: u64,
+    tree: Tree,
     l: u64,
     a: u64,
 ) -> u64
-    requires { ⌜ Reach bits h × (2 ^ bits * k + 2 ^ bits ≤ 2 ^ 64) × (p + length (inPlace (2 ^ bits) (now board) (λ h l c. 0) h k n (replicate l 0) 0 a) ≤ 2 ^ 32) ⌝ }
-    ensures { λ r. ⌜ Laid (now (plan .entry)) p (inPlace (2 ^ bits) (now (board .entry)) (λ h l c. 0) h k n (replicate l 0) 0 a) (now (plan .exit)) r ⌝ }
+    requires { ⌜ Reach bits (tree .height) × (2 ^ bits * tree .block + 2 ^ bits ≤ 2 ^ 64) × (p + length (clearedAt bits (now board) tree l a) ≤ 2 ^ 32) ⌝ }
+    ensures { λ r. ⌜ Laid (now (plan .entry)) p (clearedAt bits (now (board .entry)) tree l a) (now (plan .exit)) r ⌝ }
 {
     let free = [0u64; 0];
     let new = [0u8; 0];
     let grown = not_grown();
-    in_place(bits, board, grown, &free, plan, p, h, k, n, l, &new, 0, a)
+    let end = End {
+        tree: tree,
+        at: a,
+        length: l,
+        taken: 0,
+    };
+    in_place(bits, board, grown, &free, plan, p, end, &new)
 }

@@ -38,7 +38,7 @@ use Rattle.tails.proofs.+in_place.{statement}
 use Rattle.tails.proofs.+in_place.Tie.{close}
 
 abbrev μ : Measures 4 kinds.ps ℕ
-μ κs a = a .1 .1 .1 .1 .1 .1 .0
+μ κs a = a .1 .1 .1 .1 .1 .1 .0 .tree .height
 
 abbrev at : ℕ → In 4 kinds.ps
 at t = and 4 kinds.ps (is 4 kinds.ps μ t) in-place.Pre
@@ -77,11 +77,11 @@ known t = (
 )
 
 abbrev Inv-loop : lts.InvT-loop
-Inv-loop bits board grown free plan₀ p h k n l new c a s w to taken₀ q₀ j₀ plan taken q j =
+Inv-loop bits board grown free plan₀ p new h k n l c a s w to taken₀ q₀ j₀ plan taken q j =
     (j ≤ w) × (taken ≡ c + tailBefore (2 ^ bits) (h - 1) n l j) × Children.Placed (2 ^ bits) (onto (2 ^ bits) free board grown) (hooks (2 ^ bits) free) (h - 1) k n (padded l new) c p j plan₀ plan q
 
 abbrev μ-loop : lts.MeasureT-loop
-μ-loop bits board grown free plan₀ p h k n l new c a s w to taken₀ q₀ j₀ plan taken q j = w - j
+μ-loop bits board grown free plan₀ p new h k n l c a s w to taken₀ q₀ j₀ plan taken q j = w - j
 
 module _ (t : ℕ) where
   abbrev N : (lts.Claims → In 4 kinds.ps → Out 4 kinds.ps kinds.r → lts.InvT-loop → lts.MeasureT-loop → Type 0) → Type 0
@@ -102,32 +102,32 @@ module _ (t : ℕ) where
   seen s = onto (2 ^ s .args .bits) (s .args .free .now) (s .args .board .now) (s .args .grown)
 
   abbrev bytes : N lts.Start → List ℕ
-  bytes s = padded (s .args .l) (s .args .new .now)
+  bytes s = padded (s .args .end .length) (s .args .new .now)
 
-  long : (s : N lts.Start) → length (bytes s) ≡ s .args .l
+  long : (s : N lts.Start) → length (bytes s) ≡ s .args .end .length
   long s = Padding.length-padded (s .args .new .now) (s .pre .1 .3)
 
   returns : N lts.Need-returns
   returns c = let s = c .before .before .before .before .before .before in let a = s .args in
-      Children.laid-empty (2 ^ a .bits) (seen s) (hooks (2 ^ a .bits) (a .free .now)) (a .h) (a .k) (a .n) (bytes s) (a .c) (a .a) (long s ∙ c .if2 .taken)
+      Children.laid-empty (2 ^ a .bits) (seen s) (hooks (2 ^ a .bits) (a .free .now)) (a .end .tree .height) (a .end .tree .block) (a .end .tree .left) (bytes s) (a .end .taken) (a .end .at) (long s ∙ c .if2 .taken)
 
   hook-requires : N lts.Need-hook-requires
   hook-requires c κs = let s = c .before .before .before .before .before .before .before in (s .pre .1 .0, s .pre .1 .2 .blocks, omega (arith, c .before .if2 .left), omega (arith, s .pre .1 .4))
 
   returns-2 : N lts.Need-returns-2
   returns-2 c = let k = c .before .before .before in let e = k .before .before in let s = e .before .before .before .before .before .before in let a = s .args in
-      Children.laid-hook (2 ^ a .bits) (seen s) (hooks (2 ^ a .bits) (a .free .now)) (a .h) (a .k) (a .n) (bytes s) (a .c) (a .a) (e .before .if1 .taken) (λ none. e .if2 .left (sym (long s) ∙ none))
-      (k .hook .ensures ∙ ap (λ (l : ℕ). hooks (2 ^ a .bits) (a .free .now) (a .h) l (a .c)) (sym (long s))) (c .before .before .pair .ensures)
+      Children.laid-hook (2 ^ a .bits) (seen s) (hooks (2 ^ a .bits) (a .free .now)) (a .end .tree .height) (a .end .tree .block) (a .end .tree .left) (bytes s) (a .end .taken) (a .end .at) (e .before .if1 .taken) (λ none. e .if2 .left (sym (long s) ∙ none))
+      (k .hook .ensures ∙ ap (λ (l : ℕ). hooks (2 ^ a .bits) (a .free .now) (a .end .tree .height) l (a .end .taken)) (sym (long s))) (c .before .before .pair .ensures)
 
   returns-3 : N lts.Need-returns-3
   returns-3 c = let s = c .before .before .before .before .before .before in let a = s .args in
-      Children.laid-null (2 ^ a .bits) (seen s) (hooks (2 ^ a .bits) (a .free .now)) (a .h) (a .k) (a .n) (bytes s) (a .c) (a .a) (c .if3 .taken) (c .before .if1 .left)
+      Children.laid-null (2 ^ a .bits) (seen s) (hooks (2 ^ a .bits) (a .free .now)) (a .end .tree .height) (a .end .tree .block) (a .end .tree .left) (bytes s) (a .end .taken) (a .end .at) (c .if3 .taken) (c .before .if1 .left)
 
   -- the words of a live data block
-  words : (c : N lts.Then4) → let s = start (c .before) in let a = s .args in wordStores (2 ^ a .bits) (seen s) (a .k) (a .n) (a .l) (a .new .now)
-      ≡ inPlace (2 ^ a .bits) (seen s) (hooks (2 ^ a .bits) (a .free .now)) (a .h) (a .k) (a .n) (bytes s) (a .c) (a .a)
+  words : (c : N lts.Then4) → let s = start (c .before) in let a = s .args in wordStores (2 ^ a .bits) (seen s) (a .end .tree .block) (a .end .tree .left) (a .end .length) (a .new .now)
+      ≡ inPlace (2 ^ a .bits) (seen s) (hooks (2 ^ a .bits) (a .free .now)) (a .end .tree .height) (a .end .tree .block) (a .end .tree .left) (bytes s) (a .end .taken) (a .end .at)
   words c = let s = start (c .before) in let a = s .args in
-      Padding.data-padded (2 ^ a .bits) (seen s) (hooks (2 ^ a .bits) (a .free .now)) (a .h) (a .k) (a .n) (a .l) (a .new .now) (a .c) (a .a) (s .pre .1 .3) (c .if4 .taken) (c .before .if3 .left) (c .before .before .if1 .left)
+      Padding.data-padded (2 ^ a .bits) (seen s) (hooks (2 ^ a .bits) (a .free .now)) (a .end .tree .height) (a .end .tree .block) (a .end .tree .left) (a .end .length) (a .new .now) (a .end .taken) (a .end .at) (s .pre .1 .3) (c .if4 .taken) (c .before .if3 .left) (c .before .before .if1 .left)
 
   tail-words-requires : N lts.Need-tail-words-requires
   tail-words-requires c κs = let u = c .before in let s = start (u .before) in (s .pre .1 .2, s .pre .1 .1, omega (arith, s .pre .1 .5, ap length (words u)))
@@ -142,7 +142,7 @@ module _ (t : ℕ) where
   start-of-requires c κs = let s = start (c .before .before .before) in (search needs, omega (arith, s .pre .1 .1, Widths.least (s .pre .1 .0 .width)))
 
   loop-holds : N lts.Need-loop-holds
-  loop-holds c = let a = start (c .before .before .before .before) .args in (omega arith, omega (arith, Tails.before-start (2 ^ a .bits) (a .h - 1) (a .n) (a .l)), Children.stores-start)
+  loop-holds c = let a = start (c .before .before .before .before) .args in (omega arith, omega (arith, Tails.before-start (2 ^ a .bits) (a .end .tree .height - 1) (a .end .tree .left) (a .end .length)), Children.stores-start)
 
   part-length-requires : N lts.Need-part-length-requires
   part-length-requires c κs = let w = c .before .before .before in (omega (arith, w .before .span .ensures .high), omega (arith, w .width .ensures .most))
@@ -154,30 +154,30 @@ module _ (t : ℕ) where
   mul-minus c = let p = c .before .before .before .before in omega (arith, mul-le-mul (p .before .loop-test .taken) (found p .before .before .before .span .ensures .high))
 
   -- the address of word j of block k
-  address : (l : N lts.At-loop) → let a = start (tall l .before) .args in l .before .start-of .result + l .loop .j ≡ 2 ^ a .bits * a .k + l .loop .j
+  address : (l : N lts.At-loop) → let a = start (tall l .before) .args in l .before .start-of .result + l .loop .j ≡ 2 ^ a .bits * a .end .tree .block + l .loop .j
   address l = ap (λ (x : ℕ). x + l .loop .j) (l .before .start-of .ensures)
 
   less : (c : N lts.In-loop) → let l = c .before in l .loop .j < 2 ^ start (tall l .before) .args .bits
   less c = omega (arith, c .loop-test .taken, c .before .before .before .width .ensures .is)
 
-  add-in-place : N lts.Need-add-in-place
-  add-in-place c = let i = c .before .before .before .before .before .before .before in let l = i .before in omega (arith, less i, address l, start (tall l .before) .pre .1 .1)
+  add-taken : N lts.Need-add-taken
+  add-taken c = let i = c .before .before .before .before .before .before in let l = i .before in omega (arith, less i, address l, start (tall l .before) .pre .1 .1)
 
   -- what is taken under child j
   taken-next : (i : N lts.In-loop) {left own m : ℕ} → let l = i .before in let v = tall l in let s = start (v .before) in
-      left ≡ s .args .n - l .loop .j * l .before .before .before .span .result → own ≡ partLength (l .before .before .before .span .result) (l .loop .j) (s .args .n) (s .args .l)
-      → m ≡ tailNeed (2 ^ s .args .bits) (s .args .h - 1) left own → l .loop .taken + m ≡ s .args .c + tailBefore (2 ^ s .args .bits) (s .args .h - 1) (s .args .n) (s .args .l) (l .loop .j + 1)
+      left ≡ s .args .end .tree .left - l .loop .j * l .before .before .before .span .result → own ≡ partLength (l .before .before .before .span .result) (l .loop .j) (s .args .end .tree .left) (s .args .end .length)
+      → m ≡ tailNeed (2 ^ s .args .bits) (s .args .end .tree .height - 1) left own → l .loop .taken + m ≡ s .args .end .taken + tailBefore (2 ^ s .args .bits) (s .args .end .tree .height - 1) (s .args .end .tree .left) (s .args .end .length) (l .loop .j + 1)
   taken-next i el eo em = let l = i .before in let s = start (tall l .before) in
-      omega (arith, l .loop .inv .1, Tails.before-more (2 ^ s .args .bits) (s .args .h - 1) (s .args .n) (s .args .l) (l .loop .j) (l .before .before .before .span .ensures .is) el eo em)
+      omega (arith, l .loop .inv .1, Tails.before-more (2 ^ s .args .bits) (s .args .end .tree .height - 1) (s .args .end .tree .left) (s .args .end .length) (l .loop .j) (l .before .before .before .span .ensures .is) el eo em)
 
   -- it is among all that is taken
   taken-small : (i : N lts.In-loop) → let l = i .before in let s = start (tall l .before) in
-      s .args .c + tailBefore (2 ^ s .args .bits) (s .args .h - 1) (s .args .n) (s .args .l) (l .loop .j + 1) ≤ 2 ^ 32
+      s .args .end .taken + tailBefore (2 ^ s .args .bits) (s .args .end .tree .height - 1) (s .args .end .tree .left) (s .args .end .length) (l .loop .j + 1) ≤ 2 ^ 32
   taken-small i = let l = i .before in let v = tall l in let s = start (v .before) in let W = 2 ^ s .args .bits in
       omega (
         arith,
-        Tails.before-within W (s .args .h - 1) (s .args .n) (s .args .l) (l .loop .j) (less i),
-        Tails.need-tree W (s .args .h) (s .args .n) (s .args .l) (v .if4 .left) (v .before .before .if1 .left),
+        Tails.before-within W (s .args .end .tree .height - 1) (s .args .end .tree .left) (s .args .end .length) (l .loop .j) (less i),
+        Tails.need-tree W (s .args .end .tree .height) (s .args .end .tree .left) (s .args .end .length) (v .if4 .left) (v .before .before .if1 .left),
         s .pre .1 .4,
       )
 
@@ -194,14 +194,14 @@ module _ (t : ℕ) where
       let s = start (v .before) in
       let a = s .args in
       let size = l .before .before .before .span .ensures .is in
-      let stores = Padding.room (a .l) (a .new .now) (s .pre .1 .3) (l .loop .inv .2) size (p .part-length .ensures) (own .part .ensures) (x .cell-on .ensures) (d .block-of .ensures) (m .minus .ensures) (l .loop .inv .1) (address l) (less i) in
-      let all = Children.tree-stores (2 ^ a .bits) (seen s) (hooks (2 ^ a .bits) (a .free .now)) (a .h) (a .k) (a .n) (bytes s) (a .c) (a .a) (v .if4 .left) (v .before .if3 .left) (v .before .before .if1 .left) in (
+      let stores = Padding.room (a .end .length) (a .new .now) (s .pre .1 .3) (l .loop .inv .2) size (p .part-length .ensures) (own .part .ensures) (x .cell-on .ensures) (d .block-of .ensures) (m .minus .ensures) (l .loop .inv .1) (address l) (less i) in
+      let all = Children.tree-stores (2 ^ a .bits) (seen s) (hooks (2 ^ a .bits) (a .free .now)) (a .end .tree .height) (a .end .tree .block) (a .end .tree .left) (bytes s) (a .end .taken) (a .end .at) (v .if4 .left) (v .before .if3 .left) (v .before .before .if1 .left) in (
         omega (arith, s .pre .0, v .if4 .left),
         (
           lower (s .pre .1 .0),
           rw (d .block-of .ensures) (Widths.address-room (s .pre .1 .0 .width) (x .cell-on .result) (omega arith)),
           s .pre .1 .2,
-          Padding.own-fits (a .l) (a .new .now) (s .pre .1 .3) (l .loop .inv .2) size (p .part-length .ensures) (own .part .ensures),
+          Padding.own-fits (a .end .length) (a .new .now) (s .pre .1 .3) (l .loop .inv .2) size (p .part-length .ensures) (own .part .ensures),
           omega (arith, taken-next i (m .minus .ensures) (p .part-length .ensures) refl, taken-small i),
           omega (arith, s .pre .1 .5, stores, ap length all),
         ),
@@ -210,8 +210,8 @@ module _ (t : ℕ) where
   tail-need-requires : N lts.Need-tail-need-requires
   tail-need-requires c κs = lower (start (tall (found (c .before .before .before .before .before .before .before .before .before)) .before) .pre .1 .0)
 
-  add-taken : N lts.Need-add-taken
-  add-taken c =
+  add-taken-2 : N lts.Need-add-taken-2
+  add-taken-2 c =
       let m = c .before .before .before .before .before in
       let p = m .before .before .before .before .before in
       omega (arith, taken-next (p .before) (m .minus .ensures) (p .part-length .ensures) (c .tail-need .ensures .is), taken-small (p .before))
@@ -228,12 +228,12 @@ module _ (t : ℕ) where
       (λ w. rw (w .10, w .11, w .12) (
         omega arith,
         taken-next i (w .4 .ensures) (p .part-length .ensures) (w .9 .ensures .is),
-        Padding.step (a .l) (a .new .now) (s .pre .1 .3) (l .loop .inv .2) size (p .part-length .ensures) (w .1 .ensures) (w .2 .ensures) (w .3 .ensures) (w .4 .ensures) (l .loop .inv .1) (address l) (w .6 .ensures),
+        Padding.step (a .end .length) (a .new .now) (s .pre .1 .3) (l .loop .inv .2) size (p .part-length .ensures) (w .1 .ensures) (w .2 .ensures) (w .3 .ensures) (w .4 .ensures) (l .loop .inv .1) (address l) (w .6 .ensures),
       ))
       (λ w. rw (w .1, w .2, w .3) (
         omega arith,
-        omega (arith, taken-next i refl (p .part-length .ensures) (sym (Tails.need-empty (2 ^ a .bits) (a .h - 1) _ (p .part-length .result) (w .0 .left)))),
-        Padding.skip (a .l) (a .new .now) (s .pre .1 .3) (l .loop .inv .2) size (p .part-length .ensures) (w .0 .left),
+        omega (arith, taken-next i refl (p .part-length .ensures) (sym (Tails.need-empty (2 ^ a .bits) (a .end .tree .height - 1) _ (p .part-length .result) (w .0 .left)))),
+        Padding.skip (a .end .length) (a .new .now) (s .pre .1 .3) (l .loop .inv .2) size (p .part-length .ensures) (w .0 .left),
       ))
       (c .if5 .came)
 
@@ -242,7 +242,7 @@ module _ (t : ℕ) where
 
   returns-5 : N lts.Need-returns-5
   returns-5 c = let l = c .before in let v = tall l in let s = start (v .before) in let a = s .args in
-      Children.laid-tree (2 ^ a .bits) (seen s) (hooks (2 ^ a .bits) (a .free .now)) (a .h) (a .k) (a .n) (bytes s) (a .c) (a .a)
+      Children.laid-tree (2 ^ a .bits) (seen s) (hooks (2 ^ a .bits) (a .free .now)) (a .end .tree .height) (a .end .tree .block) (a .end .tree .left) (bytes s) (a .end .taken) (a .end .at)
       (v .if4 .left) (v .before .if3 .left) (v .before .before .if1 .left) (omega (arith, l .before .before .width .ensures .is)) (l .loop .inv .2)
 
 pub +in-place-spec : {M : Type 1} → statement M
@@ -269,11 +269,11 @@ pub +in-place-spec : {M : Type 1} → statement M
     (mul-minus t)
     (λ c κs. search needs)
     (λ c. omega arith)
-    (add-in-place t)
+    (add-taken t)
     (in-place-requires t)
     (λ c. omega arith)
     (tail-need-requires t)
-    (add-taken t)
+    (add-taken-2 t)
     (λ c. omega arith)
     (λ c. omega arith)
     (loop-again t)

@@ -17,9 +17,9 @@ use Rattle.tails.proofs.clear_in_place.Tie as tie
 
 -- the stores are those of zeros on the board as it is
 stores : (c : tie.After-not-grown) → let a = c .before .before .before .args in
-    inPlace (2 ^ a .bits) (onto (2 ^ a .bits) [] (a .board .now) (c .not-grown .result)) (hooks (2 ^ a .bits) []) (a .h) (a .k) (a .n) (padded (a .l) []) 0 (a .a)
-    ≡ inPlace (2 ^ a .bits) (a .board .now) (λ h l c. 0) (a .h) (a .k) (a .n) (replicate (a .l) 0) 0 (a .a)
-stores c = let a = c .before .before .before .args in Padding.cleared (2 ^ a .bits) (a .board .now) (c .not-grown .ensures) (omega arith) (a .h) (a .k) (a .n) (a .l) (a .a)
+    inPlace (2 ^ a .bits) (onto (2 ^ a .bits) [] (a .board .now) (c .not-grown .result)) (hooks (2 ^ a .bits) []) (a .tree .height) (a .tree .block) (a .tree .left) (padded (a .l) []) 0 (a .a)
+    ≡ inPlace (2 ^ a .bits) (a .board .now) (λ h l c. 0) (a .tree .height) (a .tree .block) (a .tree .left) (replicate (a .l) 0) 0 (a .a)
+stores c = let a = c .before .before .before .args in Padding.cleared (2 ^ a .bits) (a .board .now) (c .not-grown .ensures) (omega arith) (a .tree .height) (a .tree .block) (a .tree .left) (a .l) (a .a)
 
 in-place-requires : tie.Need-in-place-requires
 in-place-requires c κs =
@@ -30,7 +30,7 @@ in-place-requires c κs =
       s .pre .1,
       Padding.no-pointers (s .pre .0 .width) (g .not-grown .ensures),
       omega arith,
-      omega (arith, tail-most W (s .args .h) (s .args .n) (s .args .l), whole-small W (two (s .pre .0)) (s .args .h), s .pre .0 .spans),
+      omega (arith, tail-most W (s .args .tree .height) (s .args .tree .left) (s .args .l), whole-small W (two (s .pre .0)) (s .args .tree .height), s .pre .0 .spans),
       omega (arith, s .pre .2, ap length (stores g)),
     )
 

@@ -10,10 +10,10 @@ use Rattle.tails.proofs.tail_words.Statement.{statement}
 use Rattle.tails.proofs.tail_words.Tie as tie
 
 abbrev Inv-loop : tie.InvT-loop
-Inv-loop bits board grown free plan₀ p k n l new w to q₀ j₀ plan q j = (j ≤ w) × Below (2 ^ bits) (onto (2 ^ bits) free board grown) k n l new plan₀ p j plan q
+Inv-loop bits board grown free plan₀ p end new n l w to q₀ j₀ plan q j = (j ≤ w) × Below (2 ^ bits) (onto (2 ^ bits) free board grown) (end .tree .block) n l new plan₀ p j plan q
 
 abbrev μ-loop : tie.MeasureT-loop
-μ-loop bits board grown free plan₀ p k n l new w to q₀ j₀ plan q j = w - j
+μ-loop bits board grown free plan₀ p end new n l w to q₀ j₀ plan q j = w - j
 
 abbrev start : tie.At-loop Inv-loop μ-loop → tie.Start Inv-loop μ-loop
 start c = c .before .before .before .before .before .before .before
