@@ -51,15 +51,15 @@ lies W pos {h} {o} f em l = let u = under h o f l in (rw em (u .which), rw em (u
 -- ---- Where a descent ends
 
 module _ {W : ℕ} {c : List ℕ} {h k n o : ℕ} {new : List ℕ} {a : ℕ} where
-  pub at-data : h ≡ 0 → Descended W c h k n o new a (record { height = h; block = k; left = n; offset = o; at = a })
+  pub at-data : h ≡ 0 → Descended W c h k n o new a (record { tree = record { height = h; block = k; left = n }; offset = o; at = a })
   at-data e = record { is = λ fresh t. data-stop W fresh c new t h k n o a e; low = omega arith }
 
-  pub at-null : k ≡ 0 → Descended W c h k n o new a (record { height = h; block = k; left = n; offset = o; at = a })
+  pub at-null : k ≡ 0 → Descended W c h k n o new a (record { tree = record { height = h; block = k; left = n }; offset = o; at = a })
   at-null e = record { is = λ fresh t. null-stop W fresh c new t h k n o a e; low = omega arith }
 
   -- m is the span of a child
   module _ {m : ℕ} (f : h ≢ 0) (g : k ≢ 0) (em : m ≡ span W (h - 1)) where
-    pub at-wide : m < o % m + length new → Descended W c h k n o new a (record { height = h; block = k; left = n; offset = o; at = a })
+    pub at-wide : m < o % m + length new → Descended W c h k n o new a (record { tree = record { height = h; block = k; left = n }; offset = o; at = a })
     at-wide l = record { is = λ fresh t. wide-stop W fresh c new t h k n o a f g (rw em at l); low = omega arith }
 
     -- one pointer p followed

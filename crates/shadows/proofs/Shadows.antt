@@ -21,7 +21,7 @@ module _ (g : Layout) {W : ℕ} (is : g .words ≡ W) (c : List ℕ) (n : Inode)
   module _ {h k : ℕ} (eh : h ≡ n .root % W) (ek : k ≡ n .root / W) where
     -- shadow inside; v is the pointer to the fresh tree, x the word that stood where it goes
     pub inside-laid : {new plan₂ : List ℕ} {o x low v r : ℕ} {spot : Spot} → Descended W c h k (n .size) o new (n .at) spot
-        → Took W free plan base t (build W (taking free) c (spot .height) (spot .block) (spot .left) (spot .offset) new t) plan₁ t′
+        → Took W free plan base t (build W (taking free) c (spot .tree .height) (spot .tree .block) (spot .tree .left) (spot .offset) new t) plan₁ t′
         → x ≡ getD c (spot .at) 0 → low ≡ x % W → v ≡ W * taking free (t′ - 1) → Laid plan₁ q (closing (q - p) (store (spot .at) (v + low))) plan₂ r
         → PlanLaid plan (base + W * t) (shadowInside g (taking free) c n o new t) plan₂ (record { pairs = r; taken = t′ })
     unfolding shadowInside

@@ -14,11 +14,12 @@ use Rattle.kinds.specs.Figures.{Bits}
 use Rattle.plans.specs.declared.Grown.{Grown}
 use Rattle.plans.specs.Onto.{Pointers}
 use Rattle.shadows.specs.declared.Spot.{Spot}
+use Rattle.shadows.specs.declared.Target.{Target}
 
 -- where a descent ends: the tree that is built anew, and the address of its pointer
 pub record Descended (W : ℕ) (c : List ℕ) (h k n o : ℕ) (new : List ℕ) (a : ℕ) (r : Spot) : Type 0 where
-  pub is : (fresh : ℕ → ℕ) (t : ℕ) → descend W fresh c h k n o new t a ≡ record { at = r .at; pages = build W fresh c (r .height) (r .block) (r .left) (r .offset) new t }
-  pub low : r .height ≤ h
+  pub is : (fresh : ℕ → ℕ) (t : ℕ) → descend W fresh c h k n o new t a ≡ record { at = r .at; pages = build W fresh c (r .tree .height) (r .tree .block) (r .tree .left) (r .offset) new t }
+  pub low : r .tree .height ≤ h
 
 -- there is room for a page on each level of a tree; `bits` is the width
 pub record Pages (kind : Kind) (bits : ℕ) (pages : List ℕ) : Type 0 where
@@ -36,3 +37,7 @@ pub record Ready (kind : Kind) (bits : ℕ) (n : Inode) (o : ℕ) (new free scra
   pub height : 0 < n .size → n .root % layoutOf kind .words ≤ layoutOf kind .height
   pub spans : 0 < n .size → o + length new ≤ span (layoutOf kind .words) (n .root % layoutOf kind .words)
   pub place : base + 2 ^ bits * taken ≤ 2 ^ 16
+
+-- the same of a target, where growth is planned before: the place behind its pairs and the blocks that it takes
+abbrev pub ReadyFor : ℕ → Target → List ℕ → List ℕ → List ℕ → Grown → Type 0
+ReadyFor bits t new free scratch grown = Ready (t .kind) bits (t .inode) (t .offset) new free scratch grown (grown .base) (grown .levels)

@@ -9,8 +9,10 @@ use plans::cell_on;
 use plans::commit;
 use plans::pair;
 use plans::word_on;
+use taking::Under;
 use taking::place;
 use taking::pointer;
+use trees::Tree;
 use trees::span;
 use words::block_of;
 use words::low_of;
@@ -28,41 +30,32 @@ ghost use Rattle.trees.specs.Trees.{Reach};
 ghost use Rattle.plans.specs.Onto.{taking, onto, Pointers};
 ghost use Rattle.taking.specs.Taking.{Took};
 ghost use Rattle.plans.specs.Laying.{PlanLaid};
-ghost use Rattle.shadows.specs.Planning.{Descended, Ready};
+ghost use Rattle.shadows.specs.Planning.{Descended, ReadyFor};
 
-// Where a descent ends: the tree that is built anew, and the address of its pointer.
-pub struct Spot {
-    pub height: u64,
-    pub block: u64,
-    pub left: u64,
+// Where bytes are written: at `offset` of the file with this inode, on a board of some kind.
+pub struct Target {
+    pub kind: Kind,
+    pub inode: Inode,
     pub offset: u64,
-    pub at: u64,
 }
 
-// Goes down the tree (h, k, n), whose pointer stands at address a, while its block exists, isn't data and all of `new`, written at o, lies under one
-// of its pointers.
-fn descend(
-    bits: u64,
-    board: &[u64],
-    grown: Grown,
-    free: &[u64],
-    h: u64,
-    k: u64,
-    n: u64,
-    o: u64,
-    new: &[u8],
-    a: u64,
-) -> Spot
-    requires { ⌜ Reach bits h × Pointers bits (now free) grown × (2 ^ bits * k + 2 ^ bits ≤ 2 ^ 64) × (o < span (2 ^ bits) h) × (length (now new) ≤ 2 ^ 32) ⌝ }
-    ensures { λ r. ⌜ Descended (2 ^ bits) (onto (2 ^ bits) (now (free .entry)) (now (board .entry)) grown) h k n o (now (new .entry)) a r ⌝ }
+// A tree, the offset in it where bytes are written, and the address of its pointer.
+struct Spot {
+    tree: Tree,
+    offset: u64,
+    at: u64,
+}
+
+// Goes down from a spot while the tree's block exists, isn't data and all of `new` lies under one of its pointers. Answers the spot where that ends.
+fn descend(bits: u64, board: &[u64], grown: Grown, free: &[u64], spot: Spot, new: &[u8]) -> Spot
+    requires { ⌜ Reach bits (spot .tree .height) × Pointers bits (now free) grown × (2 ^ bits * spot .tree .block + 2 ^ bits ≤ 2 ^ 64) × (spot .offset < span (2 ^ bits) (spot .tree .height)) × (length (now new) ≤ 2 ^ 32) ⌝ }
+    ensures { λ r. ⌜ Descended (2 ^ bits) (onto (2 ^ bits) (now (free .entry)) (now (board .entry)) grown)
+        (spot .tree .height) (spot .tree .block) (spot .tree .left) (spot .offset) (now (new .entry)) (spot .at) r ⌝ }
 {
-    let spot = Spot {
-        height: h,
-        block: k,
-        left: n,
-        offset: o,
-        at: a,
-    };
+    let h = spot.tree.height;
+    let k = spot.tree.block;
+    let n = spot.tree.left;
+    let o = spot.offset;
     if h == 0 {
         return spot;
     }
@@ -76,54 +69,60 @@ fn descend(
     }
     let j = o / s;
     let p = cell_on(bits, board, grown, free, k, j);
-    let below = block_of(bits, p);
+    let block = block_of(bits, p);
     let left = minus(n, j * s);
     let to = start_of(bits, k) + j;
-    descend(bits, board, grown, free, h - 1, below, left, rest, new, to)
+    let child = Tree {
+        height: h - 1,
+        block: block,
+        left: left,
+    };
+    let below = Spot {
+        tree: child,
+        offset: rest,
+        at: to,
+    };
+    descend(bits, board, grown, free, below, new)
 }
 
 // A write within the size, committed at one pointer.
 pub fn shadow_inside(
-    kind: Kind,
     bits: u64,
     board: &[u64],
     grown: Grown,
     free: &[u64],
     plan: &mut [u64],
     pages: &mut [u64],
-    base: u64,
-    inode: Inode,
-    o: u64,
+    target: Target,
     new: &[u8],
-    c: u64,
 ) -> Count
-    requires { ⌜ (0 < inode .size) × Ready kind bits inode o (now new) (now free) (now pages) grown base c ⌝ }
-    ensures { λ r. ⌜ PlanLaid (now (plan .entry)) (base + 2 ^ bits * c)
-        (shadowInside (layoutOf kind) (taking (now (free .entry))) (onto (2 ^ bits) (now (free .entry)) (now (board .entry)) grown) inode o (now (new .entry)) c) (now (plan .exit)) r ⌝ }
+    requires { ⌜ (0 < target .inode .size) × ReadyFor bits target (now new) (now free) (now pages) grown ⌝ }
+    ensures { λ r. ⌜ PlanLaid (now (plan .entry)) (grown .base + 2 ^ bits * grown .levels)
+        (shadowInside (layoutOf (target .kind)) (taking (now (free .entry))) (onto (2 ^ bits) (now (free .entry)) (now (board .entry)) grown) (target .inode) (target .offset) (now (new .entry)) (grown .levels)) (now (plan .exit)) r ⌝ }
 {
-    let root = inode.root;
-    let h = low_of(bits, root);
-    let k = block_of(bits, root);
-    let spot = descend(bits, board, grown, free, h, k, inode.size, o, new, inode.at);
-    let taken = build(
-        bits,
-        board,
-        grown,
-        free,
-        plan,
-        pages,
-        base,
-        spot.height,
-        spot.block,
-        spot.left,
-        spot.offset,
-        new,
-        c,
-    );
+    let root = target.inode.root;
+    let tree = Tree {
+        height: low_of(bits, root),
+        block: block_of(bits, root),
+        left: target.inode.size,
+    };
+    let top = Spot {
+        tree: tree,
+        offset: target.offset,
+        at: target.inode.at,
+    };
+    let spot = descend(bits, board, grown, free, top, new);
+    let below = spot.tree;
+    let under = Under {
+        tree: below,
+        offset: spot.offset,
+        taken: grown.levels,
+    };
+    let taken = build(bits, board, grown, free, plan, pages, under, new);
     let low = low_of(bits, word_on(bits, board, grown, free, spot.at));
     let value = pointer(bits, free, taken - 1) + low;
-    let from = place(bits, base, c);
-    let end = place(bits, base, taken);
+    let from = place(bits, grown.base, grown.levels);
+    let end = place(bits, grown.base, taken);
     let pairs = commit(plan, from, end, spot.at, value);
     Count {
         pairs: pairs,
@@ -131,26 +130,18 @@ pub fn shadow_inside(
     }
 }
 
-// Word j of the inode leaf of the inode at address `at`, with its root and its size replaced.
-fn leaf_word(
-    bits: u64,
-    board: &[u64],
-    grown: Grown,
-    free: &[u64],
-    at: u64,
-    root: u64,
-    size: u64,
-    j: u64,
-) -> u64
+// Word j of the inode leaf that has this inode, in which its root and its size may be new.
+fn leaf_word(bits: u64, board: &[u64], grown: Grown, free: &[u64], inode: Inode, j: u64) -> u64
     requires { ⌜ Pointers bits (now free) grown ⌝ }
-    ensures { λ r. ⌜ r ≡ leafPage (2 ^ bits) (onto (2 ^ bits) (now (free .entry)) (now (board .entry)) grown) at root size j ⌝ }
+    ensures { λ r. ⌜ r ≡ leafPage (2 ^ bits) (onto (2 ^ bits) (now (free .entry)) (now (board .entry)) grown) (inode .at) (inode .root) (inode .size) j ⌝ }
 {
+    let at = inode.at;
     let slot = low_of(bits, at);
     if j == slot {
-        return root;
+        return inode.root;
     }
     if j == slot + 1 {
-        return size;
+        return inode.size;
     }
     cell_on(bits, board, grown, free, block_of(bits, at), j)
 }
@@ -162,16 +153,14 @@ fn take_leaf(
     grown: Grown,
     free: &[u64],
     plan: &mut [u64],
-    base: u64,
-    at: u64,
-    root: u64,
-    size: u64,
+    inode: Inode,
     c: u64,
 ) -> u64
-    requires { ⌜ Pointers bits (now free) grown × (base + 2 ^ bits * (c + 1) ≤ 2 ^ 32) ⌝ }
-    ensures { λ r. ⌜ Took (2 ^ bits) (now (free .entry)) (now (plan .entry)) base c (leafPage (2 ^ bits) (onto (2 ^ bits) (now (free .entry)) (now (board .entry)) grown) at root size ∷ []) (now (plan .exit)) r ⌝ }
+    requires { ⌜ Pointers bits (now free) grown × (grown .base + 2 ^ bits * (c + 1) ≤ 2 ^ 32) ⌝ }
+    ensures { λ r. ⌜ Took (2 ^ bits) (now (free .entry)) (now (plan .entry)) (grown .base) c
+        (leafPage (2 ^ bits) (onto (2 ^ bits) (now (free .entry)) (now (board .entry)) grown) (inode .at) (inode .root) (inode .size) ∷ []) (now (plan .exit)) r ⌝ }
 {
-    let p = place(bits, base, c);
+    let p = place(bits, grown.base, c);
     if plan.len() as u64 <= p {
         return c + 1;
     }
@@ -183,7 +172,7 @@ fn take_leaf(
             plan,
             p + j,
             to + j,
-            leaf_word(bits, board, grown, free, at, root, size, j),
+            leaf_word(bits, board, grown, free, inode, j),
         );
         j += 1;
     }
@@ -192,60 +181,48 @@ fn take_leaf(
 
 // A write that ends past the size, committed at the inode pointer.
 pub fn shadow_with_length(
-    kind: Kind,
     bits: u64,
     board: &[u64],
     grown: Grown,
     free: &[u64],
     plan: &mut [u64],
     pages: &mut [u64],
-    base: u64,
-    inode: Inode,
-    o: u64,
+    target: Target,
     new: &[u8],
-    c: u64,
 ) -> Count
-    requires { ⌜ (0 < inode .size) × Ready kind bits inode o (now new) (now free) (now pages) grown base c ⌝ }
-    ensures { λ r. ⌜ PlanLaid (now (plan .entry)) (base + 2 ^ bits * c)
-        (shadowWithLength (layoutOf kind) (taking (now (free .entry))) (onto (2 ^ bits) (now (free .entry)) (now (board .entry)) grown) inode o (now (new .entry)) c) (now (plan .exit)) r ⌝ }
+    requires { ⌜ (0 < target .inode .size) × ReadyFor bits target (now new) (now free) (now pages) grown ⌝ }
+    ensures { λ r. ⌜ PlanLaid (now (plan .entry)) (grown .base + 2 ^ bits * grown .levels)
+        (shadowWithLength (layoutOf (target .kind)) (taking (now (free .entry))) (onto (2 ^ bits) (now (free .entry)) (now (board .entry)) grown) (target .inode) (target .offset) (now (new .entry)) (grown .levels)) (now (plan .exit)) r ⌝ }
 {
-    let h = low_of(bits, inode.root);
-    let k = block_of(bits, inode.root);
-    let s = inode.size;
+    let root = target.inode.root;
+    let s = target.inode.size;
+    let o = target.offset;
+    let h = low_of(bits, root);
+    let tree = Tree {
+        height: h,
+        block: block_of(bits, root),
+        left: s,
+    };
+    let under = Under {
+        tree: tree,
+        offset: o,
+        taken: grown.levels,
+    };
     let e = o + new.len() as u64;
-    let taken = build(
-        bits,
-        board,
-        grown,
-        free,
-        plan,
-        pages,
-        base,
-        h,
-        k,
-        s,
-        o,
-        new,
-        c,
-    );
+    let taken = build(bits, board, grown, free, plan, pages, under, new);
     let size = if s < e { e } else { s };
-    let root = pointer(bits, free, taken - 1) + h;
-    let all = take_leaf(
-        bits,
-        board,
-        grown,
-        free,
-        plan,
-        base,
-        inode.at,
-        root,
-        size,
-        taken,
-    );
-    let from = place(bits, base, c);
-    let end = place(bits, base, all);
+    let fresh = pointer(bits, free, taken - 1) + h;
+    let after = Inode {
+        pointer: target.inode.pointer,
+        at: target.inode.at,
+        root: fresh,
+        size: size,
+    };
+    let all = take_leaf(bits, board, grown, free, plan, after, taken);
+    let from = place(bits, grown.base, grown.levels);
+    let end = place(bits, grown.base, all);
     let value = pointer(bits, free, taken);
-    let pairs = commit(plan, from, end, inode.pointer, value);
+    let pairs = commit(plan, from, end, target.inode.pointer, value);
     Count {
         pairs: pairs,
         taken: all,

@@ -23,7 +23,7 @@ use Rattle.shadows.proofs.+descend.{statement}
 use Rattle.shadows.proofs.+descend.Tie.{close}
 
 abbrev μ : Measures 3 kinds.ps ℕ
-μ κs a = a .1 .1 .1 .1 .0
+μ κs a = a .1 .1 .1 .1 .0 .tree .height
 
 abbrev at : ℕ → In 3 kinds.ps
 at t = and 3 kinds.ps (is 3 kinds.ps μ t) descend.Pre
@@ -64,7 +64,7 @@ module _ (t : ℕ) where
   pos : (c : N lts.After-span) → 0 < c .span .result
   pos c = omega (arith, c .span .ensures .low)
 
-  in-child : (c : N lts.After-span) → let a = start c .args in (a .o / c .span .result < 2 ^ a .bits) × (a .o % c .span .result < span (2 ^ a .bits) (a .h - 1))
+  in-child : (c : N lts.After-span) → let a = start c .args in (a .spot .offset / c .span .result < 2 ^ a .bits) × (a .spot .offset % c .span .result < span (2 ^ a .bits) (a .spot .tree .height - 1))
   in-child c = let s = start c in lies (2 ^ s .args .bits) (pow-pos (s .args .bits)) (c .before .before .if1 .left) (c .span .ensures .is) (s .pre .1 .3)
 
   returns : N lts.Need-returns
@@ -77,13 +77,13 @@ module _ (t : ℕ) where
   span-requires c κs = lower (c .before .before .before .before .before .pre .1 .0)
 
   add-if3 : N lts.Need-add-if3
-  add-if3 c = let s = start c in omega (arith, c .span .ensures .high, mod-lt (s .args .o) (pos c), s .pre .1 .4)
+  add-if3 c = let s = start c in omega (arith, c .span .ensures .high, mod-lt (s .args .spot .offset) (pos c), s .pre .1 .4)
 
   returns-3 : N lts.Need-returns-3
   returns-3 c = let m = c .before in at-wide (m .before .before .if1 .left) (m .before .if2 .left) (m .span .ensures .is) (c .if3 .taken)
 
   mul-minus : N lts.Need-mul-minus
-  mul-minus c = let m = within (c .before) in omega (arith, div-mul-le-self (start m .args .o) (m .span .result))
+  mul-minus c = let m = within (c .before) in omega (arith, div-mul-le-self (start m .args .spot .offset) (m .span .result))
 
   start-of-requires : N lts.Need-start-of-requires
   start-of-requires c κs = let s = start (within (c .before .before)) in (omega (arith, s .pre .1 .0 .width .high), omega (arith, s .pre .1 .2, Widths.least (s .pre .1 .0 .width)))
@@ -109,7 +109,7 @@ module _ (t : ℕ) where
       let p = read to in
       let m = within p in
       down (m .before .before .if1 .left) (m .before .if2 .left) (m .span .ensures .is) (omega (arith, p .before .if3 .left)) (p .cell-on .ensures) (to .before .before .block-of .ensures)
-      (to .before .minus .ensures) (ap (λ (x : ℕ). x + start m .args .o / m .span .result) (to .start-of .ensures)) (c .descend .ensures)
+      (to .before .minus .ensures) (ap (λ (x : ℕ). x + start m .args .spot .offset / m .span .result) (to .start-of .ensures)) (c .descend .ensures)
 
 pub +descend-spec : {M : Type 1} → statement M
 +descend-spec = close μ λ t. lts.spec (known t) (at t) descend.Post

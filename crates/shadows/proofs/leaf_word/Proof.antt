@@ -12,22 +12,22 @@ use Rattle.shadows.proofs.leaf_word.Tie as tie
 
 returns : tie.Need-returns
 unfolding leafPage copiedLeaf replaced
-returns c = let a = c .before .before .before .before .args in sym (rw (eq-eqb (a .j) (a .at % 2 ^ a .bits) (c .if1 .taken ∙ c .before .low-of .ensures)))
+returns c = let a = c .before .before .before .before .args in sym (rw (eq-eqb (a .j) (a .inode .at % 2 ^ a .bits) (c .if1 .taken ∙ c .before .low-of .ensures)))
 
 add-if2 : tie.Need-add-if2
-add-if2 c = let s = c .before .before .before .before in omega (arith, c .before .low-of .ensures, mod-lt (s .args .at) (pow-pos (s .args .bits)), Widths.most (s .pre .width))
+add-if2 c = let s = c .before .before .before .before in omega (arith, c .before .low-of .ensures, mod-lt (s .args .inode .at) (pow-pos (s .args .bits)), Widths.most (s .pre .width))
 
 returns-2 : tie.Need-returns-2
 unfolding leafPage copiedLeaf replaced
 returns-2 c = let a = c .before .before .before .before .before .args in let e = c .before .before .low-of .ensures in
-    sym (rw (ne-eqb (a .j) (a .at % 2 ^ a .bits) (rw e at (c .before .if1 .left)), eq-eqb (a .j) (a .at % 2 ^ a .bits + 1) (rw e at (c .if2 .taken))))
+    sym (rw (ne-eqb (a .j) (a .inode .at % 2 ^ a .bits) (rw e at (c .before .if1 .left)), eq-eqb (a .j) (a .inode .at % 2 ^ a .bits + 1) (rw e at (c .if2 .taken))))
 
 returns-3 : tie.Need-returns-3
 unfolding leafPage copiedLeaf replaced
 returns-3 c = let a = c .before .before .before .before .before .before .before .args in let e = c .before .before .before .before .low-of .ensures in
     sym (rw (
-      ne-eqb (a .j) (a .at % 2 ^ a .bits) (rw e at (c .before .before .before .if1 .left)),
-      ne-eqb (a .j) (a .at % 2 ^ a .bits + 1) (rw e at (c .before .before .if2 .left)),
+      ne-eqb (a .j) (a .inode .at % 2 ^ a .bits) (rw e at (c .before .before .before .if1 .left)),
+      ne-eqb (a .j) (a .inode .at % 2 ^ a .bits + 1) (rw e at (c .before .before .if2 .left)),
       c .cell-on .ensures,
       c .before .block-of .ensures,
     ))

@@ -26,31 +26,31 @@ abbrev high : tie.After-descend → tie.After-low-of
 high c = c .before .before
 
 abbrev down : tie.After-build → tie.After-descend
-down c = c .before .before .before
+down c = c .before .before .before .before
 
 abbrev built : tie.After-pointer → tie.After-build
 built c = c .before .before .before .before .before .before .before
 
-root-low : (c : tie.After-low-of) → c .low-of .result ≤ layoutOf (start c .args .kind) .height
+root-low : (c : tie.After-low-of) → c .low-of .result ≤ layoutOf (start c .args .target .kind) .height
 root-low c = let s = start c in ReadyWrites.root-height (s .pre .1) (s .pre .0) (c .low-of .ensures)
 
 descend-requires : tie.Need-descend-requires
 descend-requires c κs = let h = c .before in let s = start h in let r = s .pre .1 in (
-  reach (s .args .kind) (r .pages .wide) (root-low h),
+  reach (s .args .target .kind) (r .pages .wide) (root-low h),
   r .pointers,
-  rw (c .block-of .ensures) (Widths.address-room (r .pages .wide .width) (s .args .inode .root) (omega (arith, s .good))),
+  rw (c .block-of .ensures) (Widths.address-room (r .pages .wide .width) (s .args .target .inode .root) (omega (arith, s .good))),
   omega (arith, r .some, rw (r .pages .wide .is, ← h .low-of .ensures) at (r .spans (s .pre .0))),
-  omega (arith, r .end, small-sizes (s .args .kind)),
+  omega (arith, r .end, small-sizes (s .args .target .kind)),
 )
 
-low : (c : tie.After-descend) → c .descend .result .height ≤ layoutOf (start (high c) .args .kind) .height
+low : (c : tie.After-descend) → c .descend .result .tree .height ≤ layoutOf (start (high c) .args .target .kind) .height
 low c = omega (arith, c .descend .ensures .low, root-low (high c))
 
 build-requires : tie.Need-build-requires
-build-requires c κs = let d = c .before .before in let s = start (high d) in let r = d .descend .result in ReadyWrites.may-build (s .pre .1) (low d) (seen s) (r .block) (r .left) (r .offset)
+build-requires c κs = let d = c .before .before .before in let s = start (high d) in let r = d .descend .result in ReadyWrites.may-build (s .pre .1) (low d) (seen s) (r .tree .block) (r .tree .left) (r .offset)
 
-some : (c : tie.After-build) → let a = start (high (down c)) .args in ReadyWrites.Some (a .bits) (a .base) (a .c) (c .build .result)
-some c = let d = down c in let s = start (high d) in let r = d .descend .result in ReadyWrites.some-built (s .pre .1) (low d) (seen s) (r .block) (r .left) (r .offset) (c .build .ensures)
+some : (c : tie.After-build) → let a = start (high (down c)) .args in ReadyWrites.Some (a .bits) (a .grown .base) (a .grown .levels) (c .build .result)
+some c = let d = down c in let s = start (high d) in let r = d .descend .result in ReadyWrites.some-built (s .pre .1) (low d) (seen s) (r .tree .block) (r .tree .left) (r .offset) (c .build .ensures)
 
 word-on-requires : tie.Need-word-on-requires
 word-on-requires c κs = start (high (down (c .before .before .before .before))) .pre .1 .pointers
@@ -88,7 +88,7 @@ returns c =
     let d = down b in
     let s = start (high d) in
     let a = s .args in
-    Shadows.inside-laid (layoutOf (a .kind)) (s .pre .1 .pages .wide .is) (seen s) (a .inode) (f .before .place .ensures) (f .place2 .ensures) (high d .low-of .ensures) (d .before .block-of .ensures)
+    Shadows.inside-laid (layoutOf (a .target .kind)) (s .pre .1 .pages .wide .is) (seen s) (a .target .inode) (f .before .place .ensures) (f .place2 .ensures) (high d .low-of .ensures) (d .before .block-of .ensures)
     (d .descend .ensures) (b .build .ensures) (w .word-on .ensures) (p .before .low-of2 .ensures) (p .pointer .ensures .is) (c .before .before .commit .ensures)
 
 pub shadow-inside-spec : {M : Type 1} → statement M

@@ -32,21 +32,21 @@ built c = c .before .before .before .before .before .before
 abbrev hooked : tie.After-take-leaf → tie.After-pointer
 hooked c = c .before .before
 
-low : (c : tie.After-low-of) → c .low-of .result ≤ layoutOf (start c .args .kind) .height
+low : (c : tie.After-low-of) → c .low-of .result ≤ layoutOf (start c .args .target .kind) .height
 low c = let s = start c in ReadyWrites.root-height (s .pre .1) (s .pre .0) (c .low-of .ensures)
 
 add-e : tie.Need-add-e
-add-e c = let s = start (c .before) in omega (arith, s .pre .1 .end, small-sizes (s .args .kind))
+add-e c = let s = start (c .before) in omega (arith, s .pre .1 .end, small-sizes (s .args .target .kind))
 
 build-requires : tie.Need-build-requires
-build-requires c κs = let k = c .before .before in let s = start (k .before) in ReadyWrites.may-build (s .pre .1) (low (k .before)) (seen s) (k .block-of .result) (s .args .inode .size) (s .args .o)
+build-requires c κs = let k = c .before .before in let s = start (k .before) in ReadyWrites.may-build (s .pre .1) (low (k .before)) (seen s) (k .block-of .result) (s .args .target .inode .size) (s .args .target .offset)
 
-some : (c : tie.After-build) → let a = start (high c) .args in ReadyWrites.Some (a .bits) (a .base) (a .c) (c .build .result)
+some : (c : tie.After-build) → let a = start (high c) .args in ReadyWrites.Some (a .bits) (a .grown .base) (a .grown .levels) (c .build .result)
 some c = let s = start (high c) in
-    ReadyWrites.some-built (s .pre .1) (low (high c)) (seen s) (c .before .before .before .block-of .result) (s .args .inode .size) (s .args .o) (c .build .ensures)
+    ReadyWrites.some-built (s .pre .1) (low (high c)) (seen s) (c .before .before .before .block-of .result) (s .args .target .inode .size) (s .args .target .offset) (c .build .ensures)
 
 -- the place after the leaf's pairs
-place : (c : tie.After-build) → let a = start (high c) .args in a .base + 2 ^ a .bits * (c .build .result + 1) ≤ 2 ^ 32
+place : (c : tie.After-build) → let a = start (high c) .args in a .grown .base + 2 ^ a .bits * (c .build .result + 1) ≤ 2 ^ 32
 place c = let s = start (high c) in let W = 2 ^ s .args .bits in omega (arith, some c .place, mul-add W (c .build .result) 1, mul-one W, Widths.most (s .pre .1 .pages .wide .width))
 
 sub-pointer : tie.Need-sub-pointer
@@ -55,8 +55,8 @@ sub-pointer c = omega (arith, some (c .before .before .before .before .before) .
 pointer-requires : tie.Need-pointer-requires
 pointer-requires c κs = let s = start (high (c .before .before .before .before .before)) in (s .pre .1 .pages .wide .width, s .pre .1 .pointers .blocks)
 
-add-root : tie.Need-add-root
-add-root c = let h = high (built c) in omega (arith, c .pointer .ensures .small, low-height (start h .args .kind) (h .low-of .result) (low h))
+add-fresh : tie.Need-add-fresh
+add-fresh c = let h = high (built c) in omega (arith, c .pointer .ensures .small, low-height (start h .args .target .kind) (h .low-of .result) (low h))
 
 take-leaf-requires : tie.Need-take-leaf-requires
 take-leaf-requires c κs = let b = built (c .before) in (start (high b) .pre .1 .pointers, place b)
@@ -64,8 +64,8 @@ take-leaf-requires c κs = let b = built (c .before) in (start (high b) .pre .1 
 place-requires : tie.Need-place-requires
 place-requires c κs = let s = start (high (built (hooked (c .before .before)))) in (s .pre .1 .pages .wide .width, omega (arith, s .pre .1 .place))
 
-all-place : (c : tie.After-take-leaf) → let a = start (high (built (hooked c))) .args in a .base + 2 ^ a .bits * c .take-leaf .result ≤ 2 ^ 32
-all-place c = let b = built (hooked c) in let a = start (high b) .args in subst (λ (x : ℕ). a .base + 2 ^ a .bits * x ≤ 2 ^ 32) (sym (c .take-leaf .ensures .next)) (place b)
+all-place : (c : tie.After-take-leaf) → let a = start (high (built (hooked c))) .args in a .grown .base + 2 ^ a .bits * c .take-leaf .result ≤ 2 ^ 32
+all-place c = let b = built (hooked c) in let a = start (high b) .args in subst (λ (x : ℕ). a .grown .base + 2 ^ a .bits * x ≤ 2 ^ 32) (sym (c .take-leaf .ensures .next)) (place b)
 
 place-requires-2 : tie.Need-place-requires-2
 place-requires-2 c κs = let t = c .before .before .before in (start (high (built (hooked t))) .pre .1 .pages .wide .width, all-place t)
@@ -85,11 +85,11 @@ returns c =
     let b = built p in
     let s = start (high b) in
     let a = s .args in
-    Shadows.with-length-laid (layoutOf (a .kind)) (s .pre .1 .pages .wide .is) (seen s) (a .inode) (f .before .place .ensures) (f .place2 .ensures) (a .o) (a .new .now)
+    Shadows.with-length-laid (layoutOf (a .target .kind)) (s .pre .1 .pages .wide .is) (seen s) (a .target .inode) (f .before .place .ensures) (f .place2 .ensures) (a .target .offset) (a .new .now)
     (high b .low-of .ensures) (b .before .before .before .block-of .ensures) (b .build .ensures) (p .pointer .ensures .is) (⊎-elim (λ x. omega (arith, x)) (λ x. omega (arith, x)) (p .before .if1 .came))
     (t .take-leaf .ensures) (u .pointer2 .ensures .is) (c .before .before .commit .ensures)
 
 pub shadow-with-length-spec : {M : Type 1} → statement M
 shadow-with-length-spec =
-    tie.close (tie.spec (λ c κs. search needs) (λ c κs. search needs) add-e build-requires sub-pointer pointer-requires add-root take-leaf-requires place-requires place-requires-2
+    tie.close (tie.spec (λ c κs. search needs) (λ c κs. search needs) add-e build-requires sub-pointer pointer-requires add-fresh take-leaf-requires place-requires place-requires-2
     pointer-requires-2 commit-requires (λ c. search needs) (λ c. search needs) returns)

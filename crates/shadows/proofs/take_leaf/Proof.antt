@@ -14,11 +14,11 @@ use Rattle.shadows.proofs.take_leaf.Statement.{statement}
 use Rattle.shadows.proofs.take_leaf.Tie as tie
 
 abbrev Inv-loop : tie.InvT-loop
-Inv-loop bits board grown free plan₀ base at root size c p to w j₀ plan j =
-    (j ≤ w) × (plan ≡ laid plan₀ p (tabulate j (λ i. store (to + i) (leafPage (2 ^ bits) (onto (2 ^ bits) free board grown) at root size i))))
+Inv-loop bits board grown free plan₀ inode c p to w j₀ plan j =
+    (j ≤ w) × (plan ≡ laid plan₀ p (tabulate j (λ i. store (to + i) (leafPage (2 ^ bits) (onto (2 ^ bits) free board grown) (inode .at) (inode .root) (inode .size) i))))
 
 abbrev μ-loop : tie.MeasureT-loop
-μ-loop bits board grown free plan₀ base at root size c p to w j₀ plan j = w - j
+μ-loop bits board grown free plan₀ inode c p to w j₀ plan j = w - j
 
 -- from where the block's pointer is known to the start, and from the loop to there
 abbrev start : tie.After-pointer Inv-loop μ-loop → tie.Start Inv-loop μ-loop
@@ -29,7 +29,7 @@ pointed c = c .before .before
 
 -- one block more is a word
 count : (s : tie.Start Inv-loop μ-loop) → s .args .c + 1 ≤ 2 ^ 29
-count s = Taken.count-small (s .args .base) (s .args .c + 1) (s .pre .0 .width) (s .pre .1)
+count s = Taken.count-small (s .args .grown .base) (s .args .c + 1) (s .pre .0 .width) (s .pre .1)
 
 place-requires : tie.Need-place-requires Inv-loop μ-loop
 place-requires c κs = let s = c .before .before .before in (s .pre .0 .width, omega (arith, s .pre .1))
