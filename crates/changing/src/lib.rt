@@ -5,6 +5,7 @@ use kinds::top_size;
 use model::Answer;
 use model::Fault;
 use model::Kind;
+use planning::Request;
 use planning::plan_length;
 use planning::plan_write;
 use reading::check_file;
@@ -19,29 +20,27 @@ ghost use Rattle.planning.specs.Asked.{Stocked};
 
 // Write, where no refusal up to 6 turns it away and there is a byte to write: `free` lists the free blocks, `count` of them.
 fn write_some(
-    kind: Kind,
     bits: u64,
     board: &[u64],
     free: &[u64],
     count: u64,
     plan: &mut [u64],
     pages: &mut [u64],
-    file: u64,
-    o: u64,
+    request: Request,
     new: &[u8],
 ) -> Answer
-    requires { ⌜ Pages kind bits (now pages) × Stocked kind (now board) file o (now new) (now free) count ⌝ }
-    ensures { λ r. ⌜ PlanResult (write (layoutOf kind) (now (board .entry)) file o (now (new .entry)) (now (plan .entry))) r (now (plan .exit)) ⌝ }
+    requires { ⌜ Pages (request .kind) bits (now pages) × Stocked (request .kind) (now board) (request .file) (request .offset) (now new) (now free) count ⌝ }
+    ensures { λ r. ⌜ PlanResult (write (layoutOf (request .kind)) (now (board .entry)) (request .file) (request .offset) (now (new .entry)) (now (plan .entry))) r (now (plan .exit)) ⌝ }
 {
     let all = plan.len();
-    let wanted = plan_write(kind, bits, board, free, &mut plan[..0], pages, file, o, new);
+    let wanted = plan_write(bits, board, free, &mut plan[..0], pages, request, new);
     if count < wanted.taken {
         return Answer::Refused(Fault::FreeBlocks);
     }
     if all as u64 / 2 < wanted.pairs {
         return Answer::Refused(Fault::PlanLength);
     }
-    plan_write(kind, bits, board, free, plan, pages, file, o, new);
+    plan_write(bits, board, free, plan, pages, request, new);
     Answer::Done(wanted.pairs)
 }
 
@@ -79,18 +78,12 @@ fn write_kind(
     }
     let mut free = [0u64; 1024];
     let count = list_free(&marks, last(kind, board), &mut free);
-    write_some(
-        kind,
-        bits,
-        board,
-        &free,
-        count,
-        plan,
-        pages,
-        file,
-        offset,
-        bytes,
-    )
+    let request = Request {
+        kind: kind,
+        file: file,
+        offset: offset,
+    };
+    write_some(bits, board, &free, count, plan, pages, request, bytes)
 }
 
 // Write: plans `bytes` at `offset` of a file. Answers the pair count, or refused 1, 2, 3, 4, 6, 7, 8.

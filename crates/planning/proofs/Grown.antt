@@ -97,10 +97,10 @@ levels-all W fresh zero d = refl
 levels-all W fresh (suc k) d = ap (λ (m : ℕ). tabulate m (λ i. levelPage W (levelBelow fresh (suc k) i))) (length-tabulate d (λ i. levelPage W (levelBelow fresh (suc k) i)))
 
 -- what is planned after growth sees the board with growth's stores performed
-onto-grown : (g : Layout) (b free : List ℕ) (n : Inode) (h : ℕ) {k t v : ℕ} → k ≡ n .root / g .words → t ≡ growthTo g (taking free) n h .taken
-    → v ≡ grownRoot g (taking free) n h → onto (g .words) free b (record { below = k; levels = t; at = n .at; root = v }) ≡ performed b (concat (planEpochs (growthTo g (taking free) n h .steps)))
+onto-grown : (g : Layout) (b free : List ℕ) (n : Inode) (h base : ℕ) {k t v : ℕ} → k ≡ n .root / g .words → t ≡ growthTo g (taking free) n h .taken
+    → v ≡ grownRoot g (taking free) n h → onto (g .words) free b (record { below = k; levels = t; at = n .at; root = v; base = base }) ≡ performed b (concat (planEpochs (growthTo g (taking free) n h .steps)))
 unfolding onto growthTo plan step planEpochs concat
-onto-grown g b free n h ek et ev =
+onto-grown g b free n h base ek et ev =
     let W : ℕ = g .words in
     let k : ℕ = n .root / W in
     let d : ℕ = h - n .root % W in
@@ -151,7 +151,7 @@ module _ {kind : Kind} {bits : ℕ} {pages : List ℕ} {n : Inode} {o : ℕ} {ne
 
   -- where there is none
   module _ (t : growing G n e ≡ false) {grown : Grown} (none : NotGrown grown) where
-    pub still-ready : Ready kind bits n o new table pages grown 0 0
+    pub still-ready : Ready kind bits n o new table pages grown (grown .base) (grown .levels)
     still-ready = record {
       pages = room;
       pointers = record { width = room .wide .width; blocks = g .blocks; below = rw (none .null) (omega arith) };
@@ -160,13 +160,13 @@ module _ {kind : Kind} {bits : ℕ} {pages : List ℕ} {n : Inode} {o : ℕ} {ne
       address = g .address;
       height = g .low;
       spans = spanned G n e t;
-      place = omega arith;
+      place = rw (none .first, none .none) (omega arith);
     }
 
-    pub still-laid : (b : List ℕ) {slice slice′ : List ℕ} {r : Count} → length b < 2 ^ 64 → PlanLaid slice (0 + 2 ^ bits * 0) (chosenWay G (taking table) (onto (2 ^ bits) table b grown) n o new 0) slice′ r
+    pub still-laid : (b : List ℕ) {slice slice′ : List ℕ} {r : Count} → length b < 2 ^ 64 → PlanLaid slice (grown .base + 2 ^ bits * grown .levels) (chosenWay G (taking table) (onto (2 ^ bits) table b grown) n o new (grown .levels)) slice′ r
         → PlanLaid slice 0 (grownPlan G (taking table) b n o new) slice′ r
     unfolding performed plan planEpochs concat growth grownInode grownPlan afterwards
-    still-laid b small w = rw t (rw (onto-none (2 ^ bits) table b grown none small, mul-zero (2 ^ bits)) at w)
+    still-laid b small w = rw t (rw (onto-none (2 ^ bits) table b grown none small, none .first, none .none, mul-zero (2 ^ bits)) at w)
 
   -- where there is
   module _ (t : growing G n e ≡ true) {h : ℕ} (high : h ≡ least (G .words) (G .height) e) where
@@ -206,10 +206,10 @@ module _ {kind : Kind} {bits : ℕ} {pages : List ℕ} {n : Inode} {o : ℕ} {ne
       node-is = rw (root-is, high, t)
 
       module _ (small : n .root < 2 ^ 64) {slice slice₁ : List ℕ} {count : Count} (w : PlanLaid slice 0 (growthTo G (taking table) n h) slice₁ count) where
-        abbrev after : Grown
-        after = record { below = k; levels = count .taken; at = n .at; root = v }
+        abbrev after : ℕ → Grown
+        after base = record { below = k; levels = count .taken; at = n .at; root = v; base = base }
 
-        pub grown-ready : {base : ℕ} → base + 2 ^ bits * count .taken ≤ 2 ^ 16 → Ready kind bits grownNode o new table pages after base (count .taken)
+        pub grown-ready : {base : ℕ} → base + 2 ^ bits * count .taken ≤ 2 ^ 16 → Ready kind bits grownNode o new table pages (after base) base (count .taken)
         unfolding greatest
         grown-ready place = record {
           pages = room;
@@ -223,11 +223,11 @@ module _ {kind : Kind} {bits : ℕ} {pages : List ℕ} {n : Inode} {o : ℕ} {ne
         }
 
         pub grown-laid : (b : List ℕ) {slice₂ slice₃ : List ℕ} {r : Count} (base : ℕ) → slice₂ ≡ laid slice₁ (count .pairs) (barrier ∷ []) → base + 2 ^ bits * count .taken ≡ count .pairs + 1
-            → PlanLaid slice₂ (base + 2 ^ bits * count .taken) (chosenWay G (taking table) (onto (2 ^ bits) table b after) grownNode o new (count .taken)) slice₃ r
+            → PlanLaid slice₂ (base + 2 ^ bits * count .taken) (chosenWay G (taking table) (onto (2 ^ bits) table b (after base)) grownNode o new (count .taken)) slice₃ r
             → PlanLaid slice 0 (grownPlan G (taking table) b n o new) slice₃ r
         unfolding grownPlan
         grown-laid b base fence next second =
-            let seen = onto-grown G b table n h (rw (← room .wide .is) at ek) (w .taken) root-is in
+            let seen = onto-grown G b table n h base (rw (← room .wide .is) at ek) (w .taken) root-is in
             let place : base + G .words * growthTo G (taking table) n h .taken ≡ count .pairs + 1 = rw (room .wide .is, ← w .taken) next in
             rw grows (both-laid (growth-some G (taking table) n h) (way-some G (taking table) _ (grownInode G (taking table) n e) o new _) w (w .count) fence place
             (rw (← room .wide .is, seen, node-is, w .taken) at second))

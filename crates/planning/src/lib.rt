@@ -15,7 +15,9 @@ use plans::barrier;
 use plans::commit;
 use plans::not_grown;
 use plans::pair;
+use shadows::Target;
 use tails::clear_in_place;
+use trees::Tree;
 use trees::root_walk;
 use ways::single;
 use ways::way;
@@ -36,36 +38,25 @@ ghost use Rattle.planning.specs.Asked.{File, Growable, Asked};
 
 // Plans growth, where it is due, and what follows on the grown board.
 fn plan_grown(
-    kind: Kind,
     bits: u64,
     board: &[u64],
     free: &[u64],
     plan: &mut [u64],
     pages: &mut [u64],
-    inode: Inode,
-    o: u64,
+    target: Target,
     new: &[u8],
 ) -> Count
-    requires { ⌜ Pages kind bits (now pages) × Growable kind inode o (now new) (now free) ⌝ }
-    ensures { λ r. ⌜ PlanLaid (now (plan .entry)) 0 (grownPlan (layoutOf kind) (taking (now (free .entry))) (now (board .entry)) inode o (now (new .entry))) (now (plan .exit)) r ⌝ }
+    requires { ⌜ Pages (target .kind) bits (now pages) × Growable (target .kind) (target .inode) (target .offset) (now new) (now free) ⌝ }
+    ensures { λ r. ⌜ PlanLaid (now (plan .entry)) 0
+        (grownPlan (layoutOf (target .kind)) (taking (now (free .entry))) (now (board .entry)) (target .inode) (target .offset) (now (new .entry))) (now (plan .exit)) r ⌝ }
 {
+    let kind = target.kind;
+    let inode = target.inode;
+    let o = target.offset;
     let e = o + new.len() as u64;
     if !grows(kind, bits, inode, e) {
         let none = not_grown();
-        return way(
-            kind,
-            bits,
-            board,
-            none,
-            free,
-            plan,
-            pages,
-            0,
-            inode,
-            o,
-            new,
-            0,
-        );
+        return way(bits, board, none, free, plan, pages, target, new);
     }
     let h = height_in(kind, e);
     let count = grow(kind, bits, free, plan, inode, h);
@@ -77,6 +68,7 @@ fn plan_grown(
         levels: count.taken,
         at: inode.at,
         root: root,
+        base: base,
     };
     let after = Inode {
         pointer: inode.pointer,
@@ -84,48 +76,53 @@ fn plan_grown(
         root: root,
         size: inode.size,
     };
-    way(
-        kind,
-        bits,
-        board,
-        grown,
-        free,
-        plan,
-        pages,
-        base,
-        after,
-        o,
-        new,
-        count.taken,
-    )
+    let next = Target {
+        kind: kind,
+        inode: after,
+        offset: o,
+    };
+    way(bits, board, grown, free, plan, pages, next, new)
+}
+
+// A write as it is asked for: at `offset` of a file, on a board of some kind.
+pub struct Request {
+    pub kind: Kind,
+    pub file: u64,
+    pub offset: u64,
 }
 
 // Plans a write. A single word is never one that growth comes before, so the lent board decides it. The inode is read here. Below, only a shadow inside
 // the file reads the word again that it commits to, for its low bits, and that may be the root.
 pub fn plan_write(
-    kind: Kind,
     bits: u64,
     board: &[u64],
     free: &[u64],
     plan: &mut [u64],
     pages: &mut [u64],
-    file: u64,
-    o: u64,
+    request: Request,
     new: &[u8],
 ) -> Count
-    requires { ⌜ Pages kind bits (now pages) × Asked kind (now board) file o (now new) (now free) ⌝ }
-    ensures { λ r. ⌜ PlanLaid (now (plan .entry)) 0 (writePlan (layoutOf kind) (taking (now (free .entry))) (now (board .entry)) file o (now (new .entry))) (now (plan .exit)) r ⌝ }
+    requires { ⌜ Pages (request .kind) bits (now pages) × Asked (request .kind) (now board) (request .file) (request .offset) (now new) (now free) ⌝ }
+    ensures { λ r. ⌜ PlanLaid (now (plan .entry)) 0
+        (writePlan (layoutOf (request .kind)) (taking (now (free .entry))) (now (board .entry)) (request .file) (request .offset) (now (new .entry))) (now (plan .exit)) r ⌝ }
 {
-    let inode = lent_inode(kind, board, file);
+    let kind = request.kind;
+    let o = request.offset;
+    let inode = lent_inode(kind, board, request.file);
+    let target = Target {
+        kind: kind,
+        inode: inode,
+        offset: o,
+    };
     let e = o + new.len() as u64;
     if inode.size < e {
-        return plan_grown(kind, bits, board, free, plan, pages, inode, o, new);
+        return plan_grown(bits, board, free, plan, pages, target, new);
     }
     if o / 8 != (e - 1) / 8 {
-        return plan_grown(kind, bits, board, free, plan, pages, inode, o, new);
+        return plan_grown(bits, board, free, plan, pages, target, new);
     }
     let WalkEnd::Block(k) = root_walk(bits, board, inode.root, inode.size, o) else {
-        return plan_grown(kind, bits, board, free, plan, pages, inode, o, new);
+        return plan_grown(bits, board, free, plan, pages, target, new);
     };
     single(kind, bits, board, plan, k, o, new)
 }
@@ -148,8 +145,11 @@ pub fn plan_length(kind: Kind, bits: u64, board: &[u64], plan: &mut [u64], file:
         pair(plan, 0, at, 0);
         return commit(plan, 0, 1, at + 1, n);
     }
-    let h = low_of(bits, root);
-    let k = block_of(bits, root);
-    let q = clear_in_place(bits, board, plan, 0, h, k, s, n - s, at);
+    let tree = Tree {
+        height: low_of(bits, root),
+        block: block_of(bits, root),
+        left: s,
+    };
+    let q = clear_in_place(bits, board, plan, 0, tree, n - s, at);
     commit(plan, 0, q, at + 1, n)
 }

@@ -17,7 +17,7 @@ use Rattle.planning.proofs.plan_grown.Tie as tie
 
 -- from the test to the start, from growth to the test, and from where the place behind it is known to growth
 abbrev start : tie.After-grows → tie.Start
-start c = c .before .before .before .before .before .before
+start c = c .before .before .before .before .before .before .before
 
 abbrev tested : tie.After-grow → tie.After-grows
 tested c = c .before .before .before .before
@@ -26,14 +26,14 @@ abbrev grown : tie.After-start-of → tie.After-grow
 grown c = c .before .before .before .before .before .before .before .before
 
 add-e : tie.Need-add-e
-add-e c = let s = c .before .before .before .before .before in omega (arith, s .pre .1 .end, small-sizes (s .args .kind))
+add-e c = let s = c .before .before .before .before .before .before in omega (arith, s .pre .1 .end, small-sizes (s .args .target .kind))
 
 grows-requires : tie.Need-grows-requires
-grows-requires c κs = let s = c .before .before .before .before .before in (s .pre .0 .wide, s .pre .1 .low)
+grows-requires c κs = let s = c .before .before .before .before .before .before in (s .pre .0 .wide, s .pre .1 .low)
 
 -- ---- The tree does not grow
 
-stays : (c : tie.Then1) → let a = start (c .before) .args in growing (layoutOf (a .kind)) (a .inode) (a .o + length (a .new .now)) ≡ false
+stays : (c : tie.Then1) → let a = start (c .before) .args in growing (layoutOf (a .target .kind)) (a .target .inode) (a .target .offset + length (a .new .now)) ≡ false
 stays c = sym (c .before .grows .ensures) ∙ not-true _ (c .if1 .taken)
 
 way-requires : tie.Need-way-requires
@@ -51,7 +51,7 @@ returns c =
 
 -- ---- It grows
 
-grows : (c : tie.Else1) → let a = start (c .before) .args in growing (layoutOf (a .kind)) (a .inode) (a .o + length (a .new .now)) ≡ true
+grows : (c : tie.Else1) → let a = start (c .before) .args in growing (layoutOf (a .target .kind)) (a .target .inode) (a .target .offset + length (a .new .now)) ≡ true
 grows c = sym (c .before .grows .ensures) ∙ not-false _ (c .if1 .left)
 
 grow-requires : tie.Need-grow-requires

@@ -21,9 +21,9 @@ abbrev lent : tie.After-root-walk → tie.After-lent-inode
 lent c = c .before .before .before .before
 
 add-e : tie.Need-add-e
-add-e c = let s = start c in omega (arith, s .pre .1 .end, small-sizes (s .args .kind))
+add-e c = let s = start c in omega (arith, s .pre .1 .end, small-sizes (s .args .request .kind))
 
-growable : (c : tie.After-lent-inode) → let a = start c .args in Growable (a .kind) (c .lent-inode .result) (a .o) (a .new .now) (a .free .now)
+growable : (c : tie.After-lent-inode) → let a = start c .args in Growable (a .request .kind) (c .lent-inode .result) (a .request .offset) (a .new .now) (a .free .now)
 growable c = Writes.growable (start c .pre .1) (c .lent-inode .ensures)
 
 plan-grown-requires : tie.Need-plan-grown-requires
@@ -47,11 +47,11 @@ root-walk-requires c κs =
     let s = start i in
     let wide = s .pre .0 .wide in
     let live : 0 < i .lent-inode .result .size = omega (arith, c .before .if1 .left, s .pre .1 .some) in
-    reach (s .args .kind) wide (height-low (i .lent-inode .result .root) wide (growable i .low live) refl)
+    reach (s .args .request .kind) wide (height-low (i .lent-inode .result .root) wide (growable i .low live) refl)
 
 -- the bytes are in one word, and the walk to it tells; of a wrong test omega says where it fails
 one-word : (c : tie.After-root-walk) {v : WalkEnd} → c .root-walk .result ≡ v → let a = start (lent c) .args in
-    singleBlock (layoutOf (a .kind)) (a .board .now) (a .file) (a .o) (a .o + length (a .new .now)) ≡ v
+    singleBlock (layoutOf (a .request .kind)) (a .board .now) (a .request .file) (a .request .offset) (a .request .offset + length (a .new .now)) ≡ v
 one-word c e = let i = lent c in let t = c .before in
     Writes.one-word (i .lent-inode .ensures) _ _ (t .before .if1 .left) (omega (arith, t .if2 .left)) (rw (← start i .pre .0 .wide .is) at (c .root-walk .ensures)) e
 

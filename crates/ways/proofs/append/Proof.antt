@@ -30,14 +30,14 @@ paged c = c .before .before .before .before .before
 abbrev behind : tie.After-place2 → tie.After-place
 behind c = c .before .before .before .before .before
 
-low : (c : tie.After-low-of) → c .low-of .result ≤ layoutOf (start c .args .kind) .height
+low : (c : tie.After-low-of) → c .low-of .result ≤ layoutOf (start c .args .target .kind) .height
 low c = let s = start c in ReadyWrites.root-height (s .pre .1) (s .pre .0) (c .low-of .ensures)
 
 tail-pages-requires : tie.Need-tail-pages-requires
-tail-pages-requires c κs = let h = c .before .before .before in let s = start h in Ways.may-tail (s .pre .1) (low h) (s .args .inode .size)
+tail-pages-requires c κs = let h = c .before .before .before in let s = start h in Ways.may-tail (s .pre .1) (low h) (s .args .target .inode .size)
 
-place : (c : tie.After-tail-pages) → let a = start (high c) .args in a .base + 2 ^ a .bits * c .tail-pages .result ≤ 2 ^ 31
-place c = let s = start (high c) in Ways.tail-place (s .pre .1) (low (high c)) (seen s) (c .before .before .before .block-of .result) (s .args .inode .size) (c .tail-pages .ensures)
+place : (c : tie.After-tail-pages) → let a = start (high c) .args in a .grown .base + 2 ^ a .bits * c .tail-pages .result ≤ 2 ^ 31
+place c = let s = start (high c) in Ways.tail-place (s .pre .1) (low (high c)) (seen s) (c .before .before .before .block-of .result) (s .args .target .inode .size) (c .tail-pages .ensures)
 
 place-requires : tie.Need-place-requires
 place-requires c κs = let t = c .before .before .before .before in (start (high t) .pre .1 .pages .wide .width, omega (arith, place t))
@@ -53,7 +53,7 @@ in-place-requires c κs =
     let k = t .before .before .before .block-of in
     let s = start (high t) in
     let r = s .pre .1 in
-    let n = s .args .inode in
+    let n = s .args .target .inode in
     Ways.may-store r (low (high t)) (seen s) (k .result) (n .size) (n .at) _ (rw (k .ensures) (Widths.address-room (r .pages .wide .width) (n .root) (omega (arith, s .good)))) (behind-pages p)
 
 place-requires-2 : tie.Need-place-requires-2
@@ -63,7 +63,7 @@ add-commit : tie.Need-add-commit
 add-commit c = omega (arith, start (high (paged (behind (c .before)))) .pre .1 .address)
 
 add-commit-2 : tie.Need-add-commit-2
-add-commit-2 c = let s = start (high (paged (behind (c .before)))) in omega (arith, s .pre .1 .end, small-sizes (s .args .kind))
+add-commit-2 c = let s = start (high (paged (behind (c .before)))) in omega (arith, s .pre .1 .end, small-sizes (s .args .target .kind))
 
 commit-requires : tie.Need-commit-requires
 commit-requires c κs =
@@ -71,7 +71,7 @@ commit-requires c κs =
     let p = behind f in
     let t = paged p in
     let s = start (high t) in
-    let n = s .args .inode in
+    let n = s .args .target .inode in
     Ways.store-place (s .pre .1) (low (high t)) (seen s) (t .before .before .before .block-of .result) (n .size) (n .at) (behind-pages p) (rw (padded-all (s .args .new .now)) at (f .before .before .before .in-place .ensures))
 
 returns : tie.Need-returns
@@ -81,7 +81,7 @@ returns c =
     let t = paged p in
     let s = start (high t) in
     let a = s .args in
-    Ways.tail-laid (layoutOf (a .kind)) (s .pre .1 .pages .wide .is) (seen s) (a .inode) (f .place2 .ensures) (p .place .ensures) (high t .low-of .ensures) (t .before .before .before .block-of .ensures)
+    Ways.tail-laid (layoutOf (a .target .kind)) (s .pre .1 .pages .wide .is) (seen s) (a .target .inode) (f .place2 .ensures) (p .place .ensures) (high t .low-of .ensures) (t .before .before .before .block-of .ensures)
     (a .new .now) (s .pre .0) (t .tail-pages .ensures) (rw (padded-all (s .args .new .now)) at (f .before .before .before .in-place .ensures)) (c .before .before .commit .ensures)
 
 pub append-spec : {M : Type 1} → statement M

@@ -32,20 +32,20 @@ abbrev behind : tie.After-place2 → tie.After-place
 behind c = c .before .before .before .before .before .before
 
 -- a block has words
-positive : (s : tie.Start) → 0 < layoutOf (s .args .kind) .words
+positive : (s : tie.Start) → 0 < layoutOf (s .args .target .kind) .words
 positive s = rw (s .pre .pages .wide .is) (pow-pos (s .args .bits))
 
 add-e : tie.Need-add-e
-add-e c = let s = c .before .before .before .before .before in omega (arith, s .pre .end, small-sizes (s .args .kind))
+add-e c = let s = c .before .before .before .before .before in omega (arith, s .pre .end, small-sizes (s .args .target .kind))
 
-low : (c : tie.After-height-in) → c .height-in .result ≤ layoutOf (start c .args .kind) .height
-low c = let s = start c in let g = layoutOf (s .args .kind) in omega (arith, c .height-in .ensures, least-within (g .words) (positive s) (g .height) (s .args .o + length (s .args .new .now)))
+low : (c : tie.After-height-in) → c .height-in .result ≤ layoutOf (start c .args .target .kind) .height
+low c = let s = start c in let g = layoutOf (s .args .target .kind) in omega (arith, c .height-in .ensures, least-within (g .words) (positive s) (g .height) (s .args .target .offset + length (s .args .new .now)))
 
 build-requires : tie.Need-build-requires
-build-requires c κs = let h = c .before .before in let s = start h in ReadyWrites.may-build (s .pre) (low h) (seen s) 0 0 (s .args .o)
+build-requires c κs = let h = c .before .before in let s = start h in ReadyWrites.may-build (s .pre) (low h) (seen s) 0 0 (s .args .target .offset)
 
-some : (c : tie.After-build) → let a = start (high c) .args in ReadyWrites.Some (a .bits) (a .base) (a .c) (c .build .result)
-some c = let s = start (high c) in ReadyWrites.some-built (s .pre) (low (high c)) (seen s) 0 0 (s .args .o) (c .build .ensures)
+some : (c : tie.After-build) → let a = start (high c) .args in ReadyWrites.Some (a .bits) (a .grown .base) (a .grown .levels) (c .build .result)
+some c = let s = start (high c) in ReadyWrites.some-built (s .pre) (low (high c)) (seen s) 0 0 (s .args .target .offset) (c .build .ensures)
 
 place-requires : tie.Need-place-requires
 place-requires c κs = let b = c .before .before .before .before in (start (high b) .pre .pages .wide .width, omega (arith, some b .place))
@@ -57,7 +57,7 @@ pointer-requires : tie.Need-pointer-requires
 pointer-requires c κs = let s = start (high (built c)) in (s .pre .pages .wide .width, s .pre .pointers .blocks)
 
 add-root : tie.Need-add-root
-add-root c = let h = high (built (c .before)) in omega (arith, c .pointer .ensures .small, low-height (start h .args .kind) (h .height-in .result) (low h))
+add-root c = let h = high (built (c .before)) in omega (arith, c .pointer .ensures .small, low-height (start h .args .target .kind) (h .height-in .result) (low h))
 
 place-requires-2 : tie.Need-place-requires-2
 place-requires-2 c κs = let s = start (high (built (c .before .before .before .before .before))) in (s .pre .pages .wide .width, omega (arith, s .pre .place))
@@ -66,20 +66,20 @@ add-commit : tie.Need-add-commit
 add-commit c = let p = behind (c .before) in omega (arith, p .place .ensures, some (built p) .place)
 
 add-commit-2 : tie.Need-add-commit-2
-add-commit-2 c = omega (arith, start (high (built (behind (c .before .before)))) .pre .address)
+add-commit-2 c = omega (arith, start (high (built (behind (c .before)))) .pre .address)
 
 commit-requires : tie.Need-commit-requires
-commit-requires c κs = let p = behind (c .before .before) in omega (arith, p .place .ensures, some (built p) .place)
+commit-requires c κs = let p = behind (c .before) in omega (arith, p .place .ensures, some (built p) .place)
 
 returns : tie.Need-returns
 returns c =
-    let f = c .before .before .before .before .before in
+    let f = c .before .before .before .before in
     let h = f .before .before .before in
     let p = behind f in
     let b = built p in
     let s = start (high b) in
     let a = s .args in
-    Ways.empty-laid (layoutOf (a .kind)) (s .pre .pages .wide .is) (seen s) (a .inode) (f .place2 .ensures) (p .place .ensures) (pow-pos (a .bits)) (a .o) (a .new .now)
+    Ways.empty-laid (layoutOf (a .target .kind)) (s .pre .pages .wide .is) (seen s) (a .target .inode) (f .place2 .ensures) (p .place .ensures) (pow-pos (a .bits)) (a .target .offset) (a .new .now)
     (high b .height-in .ensures) (b .build .ensures) (h .before .before .pointer .ensures .is) (h .pair .ensures) (c .before .before .commit .ensures)
 
 pub fill-empty-spec : {M : Type 1} → statement M

@@ -11,19 +11,19 @@ use Rattle.ways.proofs.is_tail.Statement.{statement}
 use Rattle.ways.proofs.is_tail.Tie as tie
 
 returns : tie.Need-returns
-returns c = let a = c .before .before .before .args in rw (ne-eqb (a .o) (a .inode .size) (c .if1 .taken))
+returns c = let a = c .before .before .before .args in rw (ne-eqb (a .target .offset) (a .target .inode .size) (c .if1 .taken))
 
 walk-live-requires : tie.Need-walk-live-requires
 walk-live-requires c κs = let s = c .before .before .before .before .before in (rw (c .before .low-of .ensures) (s .pre .0), s .pre .1)
 
 -- the write begins at the size, so the walk tells
-told : (c : tie.After-walk-live) {v : WalkEnd} → c .walk-live .result ≡ v → let a = c .before .before .before .before .before .before .args in let W = 2 ^ a .bits in let n = a .inode in
-    atBlock v ≡ (eqb (a .o) (n .size) && atBlock (walkLive W (onto W (a .free .now) (a .board .now) (a .grown)) (n .root % W) (n .root / W) (n .size)))
+told : (c : tie.After-walk-live) {v : WalkEnd} → c .walk-live .result ≡ v → let a = c .before .before .before .before .before .before .args in let W = 2 ^ a .bits in let n = a .target .inode in
+    atBlock v ≡ (eqb (a .target .offset) (n .size) && atBlock (walkLive W (onto W (a .free .now) (a .board .now) (a .grown)) (n .root % W) (n .root / W) (n .size)))
 told c e =
     let k = c .before in
     let h = k .before in
     let a = h .before .before .before .before .args in
-    rw (eq-eqb (a .o) (a .inode .size) (h .before .if1 .left), ← h .low-of .ensures, ← k .block-of .ensures, ← c .walk-live .ensures, e)
+    rw (eq-eqb (a .target .offset) (a .target .inode .size) (h .before .if1 .left), ← h .low-of .ensures, ← k .block-of .ensures, ← c .walk-live .ensures, e)
 
 returns-2 : tie.Need-returns-2
 unfolding atBlock

@@ -31,21 +31,21 @@ returns c =
     let t = c .before .before .before .before .before .before .before in
     let s = t .before .before .before .before .before .before in
     let a = s .args in
-    Ways.same-plan (Ways.chosen-empty (layoutOf (a .kind)) (seen s) (a .inode) (a .o) (a .new .now) (a .free .now) (a .c) (t .if1 .taken)) (c .before .before .before .before .fill-empty .ensures)
+    Ways.same-plan (Ways.chosen-empty (layoutOf (a .target .kind)) (seen s) (a .target .inode) (a .target .offset) (a .new .now) (a .free .now) (a .grown .levels) (t .if1 .taken)) (c .before .before .before .before .fill-empty .ensures)
 
-live : (c : tie.Else1) → 0 < start c .args .inode .size
+live : (c : tie.Else1) → 0 < start c .args .target .inode .size
 live c = omega (arith, c .if1 .left)
 
 is-tail-requires : tie.Need-is-tail-requires
-is-tail-requires c κs = let s = start c in (reach (s .args .kind) (s .pre .pages .wide) (ReadyWrites.root-height (s .pre) (live c) refl), s .pre .pointers)
+is-tail-requires c κs = let s = start c in (reach (s .args .target .kind) (s .pre .pages .wide) (ReadyWrites.root-height (s .pre) (live c) refl), s .pre .pointers)
 
 -- the test by the layout's words
-tested : (c : tie.After-is-tail) → let s = start (c .before) in let n = s .args .inode in let W = layoutOf (s .args .kind) .words in
-    c .is-tail .result ≡ (eqb (s .args .o) (n .size) && atBlock (walkLive W (seen s) (n .root % W) (n .root / W) (n .size)))
+tested : (c : tie.After-is-tail) → let s = start (c .before) in let n = s .args .target .inode in let W = layoutOf (s .args .target .kind) .words in
+    c .is-tail .result ≡ (eqb (s .args .target .offset) (n .size) && atBlock (walkLive W (seen s) (n .root % W) (n .root / W) (n .size)))
 tested c = rw (start (c .before) .pre .pages .wide .is) (c .is-tail .ensures)
 
 -- a tail begins at the size
-at-size : (c : tie.Then2) → let a = start (c .before .before) .args in a .o ≡ a .inode .size
+at-size : (c : tie.Then2) → let a = start (c .before .before) .args in a .target .offset ≡ a .target .inode .size
 at-size c = eqb-true _ _ (true-left _ _ (sym (c .before .is-tail .ensures) ∙ c .if2 .taken))
 
 append-requires : tie.Need-append-requires
@@ -57,11 +57,11 @@ returns-2 c =
     let d = t .before in
     let s = start (d .before) in
     let a = s .args in
-    Ways.same-plan (Ways.chosen-tail (layoutOf (a .kind)) (seen s) (a .inode) (a .o) (a .new .now) (a .free .now) (a .c) (d .before .if1 .left) (tested d) (at-size t) (t .if2 .taken))
+    Ways.same-plan (Ways.chosen-tail (layoutOf (a .target .kind)) (seen s) (a .target .inode) (a .target .offset) (a .new .now) (a .free .now) (a .grown .levels) (d .before .if1 .left) (tested d) (at-size t) (t .if2 .taken))
     (c .before .before .before .before .append .ensures)
 
 add-if3 : tie.Need-add-if3
-add-if3 c = let s = start (c .before .before) in omega (arith, s .pre .end, small-sizes (s .args .kind))
+add-if3 c = let s = start (c .before .before) in omega (arith, s .pre .end, small-sizes (s .args .target .kind))
 
 shadow-inside-requires : tie.Need-shadow-inside-requires
 shadow-inside-requires c κs = let e = c .before .before .before .before .before in (live e, start e .pre)
@@ -72,7 +72,7 @@ returns-3 c =
     let d = t .before .before in
     let s = start (d .before) in
     let a = s .args in
-    Ways.same-plan (Ways.chosen-inside (layoutOf (a .kind)) (seen s) (a .inode) (a .o) (a .new .now) (a .free .now) (a .c) (d .before .if1 .left) (tested d) (t .before .if2 .left) (t .if3 .taken))
+    Ways.same-plan (Ways.chosen-inside (layoutOf (a .target .kind)) (seen s) (a .target .inode) (a .target .offset) (a .new .now) (a .free .now) (a .grown .levels) (d .before .if1 .left) (tested d) (t .before .if2 .left) (t .if3 .taken))
     (c .before .before .before .before .shadow-inside .ensures)
 
 shadow-with-length-requires : tie.Need-shadow-with-length-requires
@@ -84,7 +84,7 @@ returns-4 c =
     let d = t .before .before in
     let s = start (d .before) in
     let a = s .args in
-    Ways.same-plan (Ways.chosen-past (layoutOf (a .kind)) (seen s) (a .inode) (a .o) (a .new .now) (a .free .now) (a .c) (d .before .if1 .left) (tested d) (t .before .if2 .left) (t .if3 .left))
+    Ways.same-plan (Ways.chosen-past (layoutOf (a .target .kind)) (seen s) (a .target .inode) (a .target .offset) (a .new .now) (a .free .now) (a .grown .levels) (d .before .if1 .left) (tested d) (t .before .if2 .left) (t .if3 .left))
     (c .before .before .before .before .shadow-with-length .ensures)
 
 pub way-spec : {M : Type 1} → statement M
