@@ -16,7 +16,8 @@ ghost use mathlib.Core.Path.{_≡_};
 ghost use Prim.Native.Nat.{_+_, _-_, _<_};
 ghost use lib.ListN.{getD};
 ghost use Rattle.model.specs.Layout.{layoutOf};
-ghost use Rattle.model.specs.Board.{trailerWord, blockCount, trailer, inodePointer, rootAddress, root, size, wordCountSound, trailerSound};
+ghost use Rattle.model.specs.Tree.{link};
+ghost use Rattle.model.specs.Board.{trailerWord, blockCount, trailer, inodePointer, rootAddress, root, size, linkedLeaf, linkedInode, wordCountSound, trailerSound};
 ghost use Rattle.boards.specs.Trailers.{trailerWordsSound};
 ghost use Rattle.boards.specs.Inodes.{AddressOf, InodeOf};
 
@@ -97,6 +98,33 @@ pub fn lent_inode(kind: Kind, board: &[u64], file: u64) -> Inode
         root: root,
         size: size,
     }
+}
+
+// Word j of a block, 0 where the block is null.
+fn link(kind: Kind, board: &[u64], block: u64, j: u64) -> u64
+    ensures { λ r. ⌜ r ≡ link (layoutOf kind .words) (now (board .entry)) block j ⌝ }
+{
+    if block == 0 {
+        return 0;
+    }
+    cell(bits(kind), board, block, j)
+}
+
+// The leaf of a file on any board: null where the trailer, the inode pointer block or the inode pointer is, since block 0 is not read.
+fn linked_leaf(kind: Kind, board: &[u64], f: u64) -> u64
+    ensures { λ r. ⌜ r ≡ linkedLeaf (layoutOf kind) (now (board .entry)) f ⌝ }
+{
+    let k = block_in(kind, link(kind, board, last(kind, board), 0));
+    block_in(kind, link(kind, board, k, leaf_in(kind, f)))
+}
+
+// A word of a file's inode there: 0 the root, 1 the size.
+pub fn linked_inode(kind: Kind, board: &[u64], f: u64, j: u64) -> u64
+    requires { ⌜ j < 2 ⌝ }
+    ensures { λ r. ⌜ r ≡ linkedInode (layoutOf kind) (now (board .entry)) f j ⌝ }
+{
+    let k = linked_leaf(kind, board, f);
+    link(kind, board, k, 2 * inode_in(kind, f) + j)
 }
 
 // Whether the board has 16 blocks to the most of its kind, and no part of one.

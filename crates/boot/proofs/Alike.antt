@@ -13,9 +13,9 @@ use Rattle.model.specs.declared.WalkEnd.{WalkEnd}
 use Rattle.model.specs.declared.WalkEnd.the-variants.{Block, Hole}
 use Rattle.model.specs.Lists.{tabulate, joined, every}
 use Rattle.model.specs.Words.{byteOf}
-use Rattle.model.specs.Layout.{Layout}
+use Rattle.model.specs.Layout.{Layout, files}
 use Rattle.model.specs.Tree.{ending, span, aligned, cell, link, walk, shown, blocks, sound}
-use Rattle.model.specs.Board.{rootWalk, rootBlocks, rootSound, greatest, blockCount, trailer, inodeBlock, inodePointer, leaf, rootAddress, sizeAddress, root, size, walkTo, contents, fileBlocks, fileSound}
+use Rattle.model.specs.Board.{rootWalk, rootBlocks, rootSound, greatest, blockCount, trailer, inodeBlock, inodePointer, leaf, rootAddress, sizeAddress, root, size, fileWalk, contents, linkedLeaf, linkedInode, walkTo, fileBlocks, fileSound}
 use Rattle.model.specs.Store.{Store, performed}
 use Rattle.model.proofs.Cases.{split, decide}
 use Rattle.model.proofs.Shown.{count-kept}
@@ -68,9 +68,9 @@ walk-off W b zero (suc k) zero i = tt
 walk-off W b zero (suc k) (suc n) i = omega arith
 walk-off W b (suc h) k n i = walk-off W b h (link W b k (i / span W h) / W) (n - i / span W h * span W h) (i % span W h)
 
-pub walk-to-off : (g : Layout) (b : List ℕ) (f i : ℕ) → Off (walkTo g b f i)
-unfolding walkTo rootWalk
-walk-to-off g b f i =
+pub file-walk-off : (g : Layout) (b : List ℕ) (f i : ℕ) → Off (fileWalk g b f i)
+unfolding fileWalk rootWalk
+file-walk-off g b f i =
     let r : ℕ = root g b f in
     off-cond (ltb i (span (g .words) (r % g .words))) (walk (g .words) b (r % g .words) (r / g .words) (size g b f) i)
     (walk-off (g .words) b (r % g .words) (r / g .words) (size g b f) i)
@@ -93,6 +93,10 @@ module _ (W : ℕ) {b b′ : List ℕ} (same : Alike W b b′) where
   unfolding walk
   walk-alike zero k n i = refl
   walk-alike (suc h) k n i = λ t. walk-alike h (link-alike k (i / span W h) t / W) (n - i / span W h * span W h) (i % span W h) t
+
+  root-walk-alike : (r n i : ℕ) → rootWalk W b r n i ≡ rootWalk W b′ r n i
+  unfolding rootWalk
+  root-walk-alike r n i = λ t. cond (ltb i (span W (r % W))) (walk-alike (r % W) (r / W) n i t) Hole
 
   shown-alike : (w : WalkEnd) → Off w → (i : ℕ) → shown W b w i ≡ shown W b′ w i
   unfolding shown Off
@@ -153,6 +157,20 @@ module _ (g : Layout) {b b′ : List ℕ} (same : Alike (g .words) b b′) where
       unfolding leaf
       leaf-alike l = λ t. pointer-alike l t / g .words
 
+  -- the walk as a call goes by links
+  leaf-links-alike : (f : ℕ) → linkedLeaf g b f ≡ linkedLeaf g b′ f
+  unfolding linkedLeaf
+  leaf-links-alike f = λ t.
+      link-alike (g .words) same (link-alike (g .words) same (count-alike t - 1) 0 t / g .words) (f / g .inodes) t / g .words
+
+  inode-links-alike : (f j : ℕ) → linkedInode g b f j ≡ linkedInode g b′ f j
+  unfolding linkedInode
+  inode-links-alike f j = λ t. link-alike (g .words) same (leaf-links-alike f t) (2 * (f % g .inodes) + j) t
+
+  pub walk-to-alike : (f i : ℕ) → walkTo g b f i ≡ walkTo g b′ f i
+  unfolding walkTo
+  walk-to-alike f i = λ t. cond (ltb f (files g)) (root-walk-alike (g .words) same (inode-links-alike f 0 t) (inode-links-alike f 1 t) i t) Hole
+
   module _ {f : ℕ} (found : Found g b f) where
     pub address-alike : rootAddress g b f ≡ rootAddress g b′ f
     unfolding rootAddress
@@ -175,10 +193,9 @@ module _ (g : Layout) {b b′ : List ℕ} (same : Alike (g .words) b b′) where
     unfolding size sizeAddress
     size-alike = same .words (rootAddress g b f + 1) (omega (arith, address-off)) ∙ (λ t. getD b′ (address-alike t + 1) 0)
 
-    pub walk-to-alike : (i : ℕ) → walkTo g b f i ≡ walkTo g b′ f i
-    unfolding walkTo rootWalk
-    walk-to-alike i = λ t. let r : ℕ = root-alike t in
-        cond (ltb i (span (g .words) (r % g .words))) (walk-alike (g .words) same (r % g .words) (r / g .words) (size-alike t) i t) Hole
+    pub file-walk-alike : (i : ℕ) → fileWalk g b f i ≡ fileWalk g b′ f i
+    unfolding fileWalk
+    file-walk-alike i = λ t. root-walk-alike (g .words) same (root-alike t) (size-alike t) i t
 
     pub file-blocks-alike : fileBlocks g b f ≡ fileBlocks g b′ f
     unfolding fileBlocks rootBlocks
@@ -188,8 +205,8 @@ module _ (g : Layout) {b b′ : List ℕ} (same : Alike (g .words) b b′) where
     unfolding fileSound
     file-sound-alike = λ t. leb (size-alike t) (greatest g) && root-sound-alike (g .words) same (g .height) (count-alike t - 1) (root-alike t) (size-alike t) t
 
-    byte-alike : (i j : ℕ) → shown (g .words) b (walkTo g b f i) j ≡ shown (g .words) b′ (walkTo g b′ f i) j
-    byte-alike i j = shown-alike (g .words) same (walkTo g b f i) (walk-to-off g b f i) j ∙ (λ t. shown (g .words) b′ (walk-to-alike i t) j)
+    byte-alike : (i j : ℕ) → shown (g .words) b (fileWalk g b f i) j ≡ shown (g .words) b′ (fileWalk g b′ f i) j
+    byte-alike i j = shown-alike (g .words) same (fileWalk g b f i) (file-walk-off g b f i) j ∙ (λ t. shown (g .words) b′ (file-walk-alike i t) j)
 
     pub contents-alike : contents g b f ≡ contents g b′ f
     unfolding contents

@@ -1,4 +1,4 @@
--- Block 0, the boot block: what it holds decides no answer, no plan and no slice.
+-- Block 0, the boot block: what it holds decides no answer, no walk, no plan and no slice.
 use mathlib.Core.Path.{_≡_, refl, sym, subst, _∙_}
 use mathlib.Core.Bool.{Bool, true, false, not, _&&_, _||_}
 use mathlib.Core.List.{List, [], _∷_, _++_, append-nil, append-assoc}
@@ -25,7 +25,7 @@ use Rattle.model.specs.Claims.{SameCalls, BootRule}
 use Rattle.model.proofs.Cases.{true-left, every-cong, joined-cong}
 use Rattle.model.proofs.Shown.{words-pos, leaf-of, words-kept}
 use Rattle.model.proofs.Accepting.{Ranged, inode-range, leaves-range, facts, counted}
-use Rattle.boot.proofs.Alike.{Alike, dropped-alike, Found, count-alike, trailer-alike, inode-alike, pointer-alike, leaf-alike, size-alike, file-blocks-alike, file-sound-alike, contents-alike}
+use Rattle.boot.proofs.Alike.{Alike, dropped-alike, Found, count-alike, trailer-alike, inode-alike, pointer-alike, leaf-alike, size-alike, walk-to-alike, file-blocks-alike, file-sound-alike, contents-alike}
 use Rattle.boot.proofs.BootPlans.{length-plan-alike, write-plan-alike}
 
 -- the second tests need agree only where the first hold
@@ -225,6 +225,7 @@ module _ (g : Layout) (fit : Fits g) {b b′ : List ℕ} (same : Alike (g .words
     counts = answers-alike (boardFaults g b) (boardFaults g b′) boards (length (free g b)) (length (free g b′)) (λ w t. length (free-alike w t));
     sizes = λ f. answers-alike (fileFaults g b f) (fileFaults g b′ f) (file-verdict f) (size g b f) (size g b′ f) (sizes-alike f);
     reads = reads-alike;
+    walks = walk-to-alike g same;
     changes = changes-alike;
     formats = λ slice t. planned ((WordCount, not (word-count-alike t)) ∷ []) (pairs (format-plan-alike t)) slice;
     performs = λ slice k t. answered ((WordCount, not (word-count-alike t)) ∷ (PairCount, ltb (length slice) (2 * k))

@@ -15,13 +15,13 @@ use Rattle.model.specs.Lists.{joined, sum, choose, concat}
 use Rattle.model.specs.Words.{byteOf, wordOf}
 use Rattle.model.specs.Layout.{Layout}
 use Rattle.model.specs.Tree.{live, seen, ending, span, least, cell}
-use Rattle.model.specs.Board.{rootAddress, sizeAddress, root, size, walkTo, inodeOf}
+use Rattle.model.specs.Board.{rootAddress, sizeAddress, root, size, fileWalk, inodeOf}
 use Rattle.model.specs.Store.{Store, store, performed}
 use Rattle.model.specs.Plan.{Plan, plan, step, planEpochs, afterwards}
 use Rattle.model.specs.Fresh.{Page, splice, part, partLength, touched, freshNeed, freshBefore, dataPage, stored, freshPointer, pointerPage, build}
 use Rattle.model.specs.InPlace.{atBlock, tailBefore, walkLive, tailPages, tailWords, hooked, inPlace}
 use Rattle.model.specs.Change.{growth, grownInode, splicedWord, singleBlock, singleWord, isTail, emptyTailTo, emptyTail, tail, Shadow, descend, shadowInside, replaced, copiedLeaf, leafPage, shadowWithLength, chosenWay, grownPlan, somePlan, writePlan, cleared, lengthPlan}
-use Rattle.boot.proofs.Alike.{Alike, performed-alike, Off, off-cond, walk-to-off, cell-alike, link-alike, Found, inode-alike, address-alike, address-off, root-alike, size-alike, walk-to-alike}
+use Rattle.boot.proofs.Alike.{Alike, performed-alike, Off, off-cond, file-walk-off, cell-alike, link-alike, Found, inode-alike, address-alike, address-off, root-alike, size-alike, file-walk-alike}
 
 -- ---- Trees
 
@@ -114,7 +114,7 @@ module _ (W : ℕ) {b b′ : List ℕ} (same : Alike W b b′) where
 
 single-off : (g : Layout) (b : List ℕ) (f o e : ℕ) → Off (singleBlock g b f o e)
 unfolding singleBlock
-single-off g b f o e = off-cond (leb e (size g b f) && eqb (o / 8) ((e - 1) / 8)) (walkTo g b f o) (walk-to-off g b f o)
+single-off g b f o e = off-cond (leb e (size g b f) && eqb (o / 8) ((e - 1) / 8)) (fileWalk g b f o) (file-walk-off g b f o)
 
 module _ (g : Layout) {b b′ : List ℕ} (same : Alike (g .words) b b′) {f : ℕ} (found : Found g b f) where
   address : rootAddress g b f ≡ rootAddress g b′ f
@@ -132,7 +132,7 @@ module _ (g : Layout) {b b′ : List ℕ} (same : Alike (g .words) b b′) {f : 
 
   single-block-alike : (o e : ℕ) → singleBlock g b f o e ≡ singleBlock g b′ f o e
   unfolding singleBlock
-  single-block-alike o e = λ t. cond (leb e (sizes t) && eqb (o / 8) ((e - 1) / 8)) (walk-to-alike g same found o t) Hole
+  single-block-alike o e = λ t. cond (leb e (sizes t) && eqb (o / 8) ((e - 1) / 8)) (file-walk-alike g same found o t) Hole
 
   single-word-alike : (k o : ℕ) (new : List ℕ) → 0 < k → singleWord g b k o new ≡ singleWord g b′ k o new
   unfolding singleWord cell

@@ -7,8 +7,8 @@ use Prim.Native.Nat.{ℕ, _*_, _^_, _≤_, _<_}
 use native.Mathlib.Omega.{arith}
 use lib.ListN.{length, take}
 use lib.Dec.{ltb}
-use lib.IntN.{ℤ}
-use mir.Facts.{toZ-ofZ}
+use lib.IntN.{ℤ, pos}
+use mir.Facts.{toZ-pos, toZ-ofZ}
 use mir.Syntax.{w64}
 use mir.Val.{SFits, toZ, ofZ}
 use borrow.Author.Tests.{lt-ltb}
@@ -16,6 +16,8 @@ use Rattle.model.specs.declared.Answer.{Answer}
 use Rattle.model.specs.declared.Answer.the-variants.{Refused}
 use Rattle.model.specs.declared.Fault.{Fault}
 use Rattle.model.specs.declared.Fault.the-variants.{End, PlanLength, PairCount, Address}
+use Rattle.model.specs.declared.WalkEnd.{WalkEnd}
+use Rattle.model.specs.declared.WalkEnd.the-variants.{Block, Hole}
 use Rattle.model.specs.Lists.{all}
 use Rattle.model.specs.Layout.{house}
 use Rattle.model.specs.Board.{greatest}
@@ -23,7 +25,7 @@ use Rattle.model.specs.Store.{Store, isBarrier, paired}
 use Rattle.model.specs.Plan.{Plan, pairs}
 use Rattle.model.specs.Change.{writePlan, lengthPlan}
 use Rattle.model.specs.Format.{formatPlan}
-use Rattle.model.specs.Answers.{Faults, answered, counted, signed}
+use Rattle.model.specs.Answers.{Faults, answered, counted, signed, ended}
 use Rattle.model.specs.Calls.{wordCountFault, fileFaults, Planned, planned, lowest, writeFaults, writeFrom, write, setLength, format, performFaults, performAnswer}
 use Rattle.model.proofs.Cases.{split}
 use Rattle.plans.specs.Laying.{PlanResult}
@@ -34,6 +36,15 @@ use Rattle.hosts.specs.Results.{WordsPlan}
 -- the number is the answer's
 pub as-signed : {r a : Answer} {s : ℤ} → SFits w64 s → s ≡ signed r → r ≡ a → toZ w64 (ofZ w64 s) ≡ signed a
 as-signed fits e ea = toZ-ofZ fits ∙ e ∙ ap signed ea
+
+-- where a walk ended
+pub ended-hole : {w : WalkEnd} → w ≡ Hole → pos 0 ≡ ended w
+unfolding ended
+ended-hole e = rw e
+
+pub ended-block : {w : WalkEnd} {k : ℕ} → w ≡ Block k → k < 2 ^ 63 → toZ w64 k ≡ ended w
+unfolding ended
+ended-block e small = rw e (toZ-pos w64 small)
 
 -- a fault that is found leaves nothing to count
 found-none : (fs gs : Faults) (x : Fault) (n : ℕ) → counted (answered (fs ++ ((x, true) ∷ gs)) n) ≤ 0

@@ -1,9 +1,11 @@
 // The calls for hosts that hold a board as words. Each answers what the definition of its name answers, as C gets it, and leaves what that leaves, on all
 // inputs.
 use answers::signed;
+use model::WalkEnd;
 ghost use mathlib.Core.Path.{_≡_};
 ghost use Rattle.model.specs.Layout.{house};
-ghost use Rattle.model.specs.Answers.{signed};
+ghost use Rattle.model.specs.Board.{walkTo};
+ghost use Rattle.model.specs.Answers.{signed, ended};
 ghost use Rattle.model.specs.Calls.{checkAnswer, freeCountAnswer, sizeAnswer, write, setLength, format};
 ghost use Rattle.hosts.specs.Results.{WordsRead, WordsPlan, WordsPerform};
 
@@ -42,6 +44,18 @@ pub extern "C" fn montebeech_words_read(
     ensures { λ r. ⌜ WordsRead (now (board .entry)) file offset (now (out .entry)) r (now (out .exit)) ⌝ }
 {
     signed(reading::read(board, file, offset, out))
+}
+
+// The walk to a byte of a file: the number of the block where it ends, 0 for a hole. It refuses nothing.
+#[no_mangle]
+pub extern "C" fn montebeech_words_walk(board: &[u64], file: u64, byte: u64) -> i64
+    ensures { λ r. ⌜ r ≡ ended (walkTo house (now (board .entry)) file byte) ⌝ }
+{
+    let end = reading::walk_to(board, file, byte);
+    let WalkEnd::Block(k) = end else {
+        return 0;
+    };
+    k as i64
 }
 
 // Write: plans `bytes` at `offset` of a file and answers the pair count, or -1, -2, -3, -4, -6, -7, -8.

@@ -14,7 +14,7 @@ use Rattle.model.specs.declared.WalkEnd.the-variants.{Hole}
 use Rattle.model.specs.Lists.{concat}
 use Rattle.model.specs.Layout.{Layout}
 use Rattle.model.specs.Tree.{span, least, walk}
-use Rattle.model.specs.Board.{rootWalk, greatest, rootHeight, rootBlock, size, inodeOf, walkTo}
+use Rattle.model.specs.Board.{rootWalk, greatest, rootHeight, rootBlock, size, inodeOf, fileWalk}
 use Rattle.model.specs.Store.{performed}
 use Rattle.model.specs.Plan.{plan, planEpochs}
 use Rattle.model.specs.Fresh.{Page}
@@ -42,7 +42,7 @@ word-past W h o e some word l = omega (arith, span-power W h)
 
 module _ (g : Layout) (b : List ℕ) (f o e : ℕ) where
   -- no single word is written where its first byte is in a hole
-  single-hole : (o / 8 ≡ (e - 1) / 8 → walkTo g b f o ≡ Hole) → singleBlock g b f o e ≡ Hole
+  single-hole : (o / 8 ≡ (e - 1) / 8 → fileWalk g b f o ≡ Hole) → singleBlock g b f o e ≡ Hole
   unfolding singleBlock
   single-hole hole =
       let within : Bool = leb e (size g b f) in
@@ -51,7 +51,7 @@ module _ (g : Layout) (b : List ℕ) (f o e : ℕ) where
 
   -- so none that ends past the tree's span
   pub single-past : o < e → span (g .words) (rootHeight g b f) < e → singleBlock g b f o e ≡ Hole
-  unfolding walkTo rootWalk
+  unfolding fileWalk rootWalk
   single-past some more =
       let s : ℕ = span (g .words) (rootHeight g b f) in
       single-hole (λ word. rw (le-ltb o s (word-past (g .words) (rootHeight g b f) o e some word more)))
@@ -97,8 +97,8 @@ module _ {g : Layout} {b : List ℕ} {f e : ℕ} (w : Growing g b f e) {fresh : 
   c = committed b (growthStep g fresh b f h)
 
   -- where all bytes are in one word, the first is in a hole
-  new-hole : o / 8 ≡ (e - 1) / 8 → walkTo g c f o ≡ Hole
-  unfolding walkTo rootWalk greatest growthTo plan
+  new-hole : o / 8 ≡ (e - 1) / 8 → fileWalk g c f o ≡ Hole
+  unfolding fileWalk rootWalk greatest growthTo plan
   new-hole word =
       let pos : 0 < W = words-pos g (w .on .fit) in
       let reaches : e ≤ span W h = least-reaches W pos (g .height) e (w .most) in

@@ -10,7 +10,7 @@ use lib.Dec.{T, leb, le→leb}
 use Rattle.model.specs.Lists.{tabulate, sum, one, occ}
 use Rattle.model.specs.Layout.{Layout, Fits, files}
 use Rattle.model.specs.Tree.{seen, span, blocks, sound}
-use Rattle.model.specs.Board.{rootBlocks, rootSound, greatest, blockCount, inodeBlock, leaf, rootHeight, rootBlock, root, size, walkTo, contents, fileBlocks, liveBlocks, trailerSound, leafSound, fileSound, accepted}
+use Rattle.model.specs.Board.{rootBlocks, rootSound, greatest, blockCount, inodeBlock, leaf, rootHeight, rootBlock, root, size, fileWalk, contents, walkTo, fileBlocks, liveBlocks, trailerSound, leafSound, fileSound, accepted}
 use Rattle.model.specs.Fresh.{splice}
 use Rattle.model.proofs.Cases.{split, decide, and-both, tabulate-cong}
 use Rattle.model.proofs.Sums.{sum-cong, sum-add, only, only-same, only-other, sum-only, sum-only-at}
@@ -19,6 +19,7 @@ use Rattle.model.proofs.Changed.{Changed}
 use Rattle.model.proofs.Levels.{Grown}
 use Rattle.model.proofs.Shown.{Same, rootByte, root-byte-in, root-byte-past, contents-bytes, root-blocks, root-byte, root-walk, root-sound, words-pos, occ-live, leaf-of, count-kept, words-kept}
 use Rattle.model.proofs.Accepting.{FileOn, accepted-parts, parts-accepted, file-parts, root-sound-parts}
+use Rattle.model.proofs.Linked.{walk-to-file}
 
 -- file f is sound on b₂, reads `wanted`, and has its blocks of b and the extra ones, less those that are gone
 pub record FileCommit (g : Layout) (b b₂ : List ℕ) (f : ℕ) (wanted : List ℕ) (extra gone : ℕ → ℕ) : Type 0 where
@@ -219,8 +220,8 @@ module _ {g : Layout} {b b₂ : List ℕ} {f : ℕ} (on : FileOn g b f) {wanted 
   other : (i : ℕ) → i < files g → i ≢ f → FileCommit g b b₂ i (contents g b i) (λ q. 0) (λ q. 0)
   other i u d = kept-commit g fit b b₂ (c .lengths) i (c .others .sizes i u d) (c .others .roots i u d) (c .others .trees i u d) (accepted-parts g b board .files-sound i u)
 
-  other-walks : (i : ℕ) → i < files g → i ≢ f → (n : ℕ) → walkTo g b₂ i n ≡ walkTo g b i n
-  unfolding walkTo
+  other-walks : (i : ℕ) → i < files g → i ≢ f → (n : ℕ) → fileWalk g b₂ i n ≡ fileWalk g b i n
+  unfolding fileWalk
   other-walks i u d n = rw (← (c .others .sizes i u d))
       (sym (root-walk (g .words) (words-pos g fit) b b₂ (root g b i) (root g b₂ i) (size g b i) (c .others .roots i u d) (c .others .trees i u d) n))
 
@@ -246,11 +247,17 @@ module _ {g : Layout} {b b₂ : List ℕ} {f : ℕ} (on : FileOn g b f) {wanted 
   }
 
   pub one-file : Outcome g b b₂ f wanted
-  one-file = record {
-    board = commit-accepted g b b₂ commit board;
-    reads = c .file .reads;
-    kept = λ i u d. record { reads = other i u d .reads; walks = other-walks i u d };
-  }
+  one-file =
+      let now : T (accepted g b₂) = commit-accepted g b b₂ commit board in
+      let at : (e : List ℕ) → T (accepted g e) → (i : ℕ) → i < files g → FileOn g e i = λ e t i u. record { fit = fit; board = t; file = u } in
+      record {
+        board = now;
+        reads = c .file .reads;
+        kept = λ i u d. record {
+          reads = other i u d .reads;
+          walks = λ n. walk-to-file (at b₂ now i u) n ∙ other-walks i u d n ∙ sym (walk-to-file (at b board i u) n);
+        };
+      }
 
   pub one-file-counts : (q : ℕ) → occ q (liveBlocks g b₂) + lessBeside q + lessWithin q ≡ occ q (liveBlocks g b) + beside q + within q
   one-file-counts q =

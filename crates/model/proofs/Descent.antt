@@ -291,7 +291,7 @@ pub hole≢block : (K : ℕ) → Hole ≢ Block K
 unfolding atBlock
 hole≢block K e = false≢true (ap atBlock e)
 
-ending-is : (k n K : ℕ) → ending k n ≡ Block K → (0 < n) × (K ≡ k)
+pub ending-is : (k n K : ℕ) → ending k n ≡ Block K → (0 < n) × (K ≡ k)
 unfolding ending
 ending-is zero n K e = absurd (hole≢block K e)
 ending-is (suc k) zero K e = absurd (hole≢block K e)

@@ -12,7 +12,7 @@ use borrow.Author.Tests.{lt-ltb, le-ltb}
 use Rattle.model.specs.Lists.{concat, occ}
 use Rattle.model.specs.Layout.{Layout, files}
 use Rattle.model.specs.Tree.{live, span, least}
-use Rattle.model.specs.Board.{rootWalk, rootBlocks, greatest, blockCount, inodeBlock, rootAddress, sizeAddress, rootHeight, rootBlock, root, size, walkTo, contents, fileBlocks, liveBlocks, inodeOf}
+use Rattle.model.specs.Board.{rootWalk, rootBlocks, greatest, blockCount, inodeBlock, rootAddress, sizeAddress, rootHeight, rootBlock, root, size, fileWalk, contents, fileBlocks, liveBlocks, inodeOf}
 use Rattle.model.specs.Store.{Store, store, performed}
 use Rattle.model.specs.Plan.{Step, step, plan, planEpochs}
 use Rattle.model.specs.Fresh.{Page, stored}
@@ -250,8 +250,8 @@ module _ {g : Layout} {b : List ℕ} {f e : ℕ} (w : Growing g b f e) {fresh : 
     growth-held = held-done
 
     -- a walk within the old span ends where it ended
-    pub growth-walks : (i : ℕ) → i < span (g .words) (rootHeight g b f) → walkTo g (committed b (growthStep g fresh b f h)) f i ≡ walkTo g b f i
-    unfolding step store committed done c₁ value walkTo rootWalk
+    pub growth-walks : (i : ℕ) → i < span (g .words) (rootHeight g b f) → fileWalk g (committed b (growthStep g fresh b f h)) f i ≡ fileWalk g b f i
+    unfolding step store committed done c₁ value fileWalk rootWalk
     growth-walks i l =
         let wider : i < span (g .words) h = omega (arith, span-mono (g .words) pos (rootHeight g b f) h higher) in
         rw (height-done, ← size-done, lt-ltb i (span (g .words) h) wider, lt-ltb i (span (g .words) (rootHeight g b f)) l) (tree-grown .walks i l)

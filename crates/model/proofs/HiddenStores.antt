@@ -26,8 +26,9 @@ use Rattle.model.proofs.Perform.{All, address-place}
 use Rattle.model.proofs.Epochs.{all-chosen}
 use Rattle.model.proofs.Trees.{childBlocks}
 use Rattle.model.proofs.Agree.{agree, agree-away, cell-away, occ-children, occ-child, agree-none}
-use Rattle.model.proofs.Shown.{Same, words-pos, file-live, leaf-of, same-shows, root-block}
+use Rattle.model.proofs.Shown.{Same, words-pos, file-live, leaf-of, root-block}
 use Rattle.model.proofs.Accepting.{FileOn, Ranged, facts}
+use Rattle.model.proofs.Linked.{same-shows}
 use Rattle.model.proofs.Ranges.{file-range}
 use Rattle.model.proofs.Census.{FreeBlock, member-free}
 use Rattle.model.proofs.Visible.{Unseen, frame-same, unseen-same}
@@ -220,4 +221,4 @@ module _ (g : Layout) (fit : Fits g) (b : List ℕ) (t : T (accepted g b)) where
   choice-same ss u arrived = unseen-same g fit b (chosen arrived ss) (all-chosen (Unseen g b) arrived ss (hidden-unseen ss u))
 
 pub hidden-rule : HiddenRule
-hidden-rule g fit b t ss u arrived = same-shows g fit b (performed b (chosen arrived ss)) (choice-same g fit b t ss u arrived)
+hidden-rule g fit b t ss u arrived = same-shows g fit b (performed b (chosen arrived ss)) t (choice-same g fit b t ss u arrived)

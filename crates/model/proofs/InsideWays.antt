@@ -12,7 +12,7 @@ use Rattle.model.specs.Lists.{occ}
 use Rattle.model.specs.declared.WalkEnd.the-variants.{Block}
 use Rattle.model.specs.Layout.{Layout}
 use Rattle.model.specs.Tree.{span, cell, walk}
-use Rattle.model.specs.Board.{rootWalk, rootBlocks, blockCount, rootAddress, sizeAddress, rootHeight, rootBlock, root, size, walkTo, fileBlocks, liveBlocks}
+use Rattle.model.specs.Board.{rootWalk, rootBlocks, blockCount, rootAddress, sizeAddress, rootHeight, rootBlock, root, size, fileWalk, fileBlocks, liveBlocks}
 use Rattle.model.specs.Store.{Store, store, performed}
 use Rattle.model.specs.Plan.{step}
 use Rattle.model.specs.Fresh.{stored}
@@ -50,7 +50,7 @@ module _ {g : Layout} {b : List ℕ} {f o : ℕ} {new : List ℕ} (w : Writing g
 
   -- ---- Single word
 
-  module _ (K : ℕ) (there : walkTo g b f o ≡ Block K) (word : o / 8 ≡ (o + length new - 1) / 8) where
+  module _ (K : ℕ) (there : fileWalk g b f o ≡ Block K) (word : o / 8 ≡ (o + length new - 1) / 8) where
     abbrev a : ℕ
     a = g .words * K + o % span (g .words) 0 / 8
 
@@ -61,7 +61,7 @@ module _ {g : Layout} {b : List ℕ} {f o : ℕ} {new : List ℕ} (w : Writing g
     b₂ = set b a v
 
     walked : walk (g .words) b (rootHeight g b f) (rootBlock g b f) (size g b f) o ≡ Block K
-    unfolding walkTo rootWalk
+    unfolding fileWalk rootWalk
     walked = rw (lt-ltb o (span (g .words) (rootHeight g b f)) (omega arith)) at there
 
     block-of : a / g .words ≡ K

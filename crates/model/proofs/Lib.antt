@@ -26,9 +26,10 @@ pub mod Tailed
 pub mod Descent
 pub mod Shrunk
 pub mod Levels
--- Boards: what is shown, what acceptance says, format, free blocks, commits, hidden stores
+-- Boards: what is shown, what acceptance says, the walk to a byte as a call, format, free blocks, commits, hidden stores
 pub mod Shown
 pub mod Accepting
+pub mod Linked
 pub mod Formatted
 pub mod Ranges
 pub mod Live
@@ -56,6 +57,7 @@ pub mod Plans
 pub mod Rules
 pub mod WayNeeds
 pub mod PastEnd
+pub mod WalkEnds
 pub mod FormatCut
 -- Proofs by computation: one name for all definitions, and format on 16 blocks
 pub mod Computing

@@ -12,7 +12,7 @@ use Rattle.model.specs.declared.WalkEnd.the-variants.{Hole}
 use Rattle.model.specs.Lists.{member}
 use Rattle.model.specs.Layout.{Layout}
 use Rattle.model.specs.Tree.{live, span, least}
-use Rattle.model.specs.Board.{blockCount, rootWalk, rootHeight, rootBlock, size, sizeAddress, inodeOf, walkTo, contents, free}
+use Rattle.model.specs.Board.{blockCount, rootWalk, rootHeight, rootBlock, size, sizeAddress, inodeOf, fileWalk, contents, walkTo, free}
 use Rattle.model.specs.Store.{performed, stores, fenced}
 use Rattle.model.specs.Plan.{Plan, plan, planEpochs, afterwards, pairs}
 use Rattle.model.specs.Fresh.{freshNeed, need, build}
@@ -28,11 +28,13 @@ use Rattle.model.proofs.Paths.{touched-new, fresh-quiet}
 use Rattle.model.proofs.Built.{Between, length-build, length-build-null}
 use Rattle.model.proofs.PastTree.{Laid, laid-holes, laid-path, laid-arrives}
 use Rattle.model.proofs.Shown.{words-pos}
+use Rattle.model.proofs.Accepting.{FileOn}
+use Rattle.model.proofs.Linked.{walk-to-file}
 use Rattle.model.proofs.Supplied.{Supply, supply-order, lowest-rule}
 use Rattle.model.proofs.Steps.{committed, allCommitted, performed-steps}
 use Rattle.model.proofs.Writing.{Writing, Spanned, Growing}
 use Rattle.model.proofs.SizeWays.{empty-height, empty-block, empty-held}
-use Rattle.model.proofs.LeafWay.{treePages, leafStep, leaf-held, leaf-height, leaf-block, leaf-size}
+use Rattle.model.proofs.LeafWay.{treePages, leafStep, leaf-good, leaf-held, leaf-height, leaf-block, leaf-size}
 use Rattle.model.proofs.GrowthWay.{growthStep, growing-cases, growth-size, growth-reaches, growth-supply, growth-walks}
 use Rattle.model.proofs.Plans.{growth-first, still-plan, growth-is, grown-plan, grown-writing, write-good}
 use Rattle.model.proofs.Rules.{write-passed, one-stores}
@@ -61,8 +63,8 @@ module _ (g : Layout) (fresh : ℕ → ℕ) (b : List ℕ) (f o : ℕ) (new : Li
 -- ---- What it leaves
 
 -- *a byte past the span is in a hole*
-beyond-hole : (g : Layout) (b : List ℕ) (f i : ℕ) → span (g .words) (rootHeight g b f) ≤ i → walkTo g b f i ≡ Hole
-unfolding walkTo rootWalk
+beyond-hole : (g : Layout) (b : List ℕ) (f i : ℕ) → span (g .words) (rootHeight g b f) ≤ i → fileWalk g b f i ≡ Hole
+unfolding fileWalk rootWalk
 beyond-hole g b f i l = rw (le-ltb i (span (g .words) (rootHeight g b f)) l)
 
 module _ {g : Layout} {b : List ℕ} {f o : ℕ} {new : List ℕ} (w : Writing g b f o new) (some : 0 < length new) (reach : Spanned g b f (o + length new))
@@ -77,8 +79,8 @@ module _ {g : Layout} {b : List ℕ} {f o : ℕ} {new : List ℕ} (w : Writing g
   abbrev Past : Plan → Type 0
   Past p = p .taken ≤ lim → ((i : ℕ) → c ≤ i → i < p .taken → T (member (fresh i) taken)) → PastEnd g b (allCommitted b (p .steps)) f o (length new) taken
 
-  empty-hole : size g b f ≡ 0 → (i : ℕ) → walkTo g b f i ≡ Hole
-  unfolding walkTo rootWalk
+  empty-hole : size g b f ≡ 0 → (i : ℕ) → fileWalk g b f i ≡ Hole
+  unfolding fileWalk rootWalk
   empty-hole z i = elim (split (span W (rootHeight g b f)) i) [
     | inl beyond ↦ beyond-hole g b f i beyond
     | inr within ↦ rw (lt-ltb i (span W (rootHeight g b f)) within, z, walk-dead W b (rootHeight g b f) (rootBlock g b f) i)
@@ -94,7 +96,7 @@ module _ {g : Layout} {b : List ℕ} {f o : ℕ} {new : List ℕ} (w : Writing g
       let block = empty-block (w .on) w some z supply room in
       record {
         copied = λ l. absurd (omega arith);
-        arrives = λ x. absurd (rw (empty-hole z (size g b f - 1)) at x);
+        arrives = λ x. absurd (rw (walk-to-file (w .on) (size g b f - 1), empty-hole z (size g b f - 1)) at x);
         holes = rw (high, block, z, ← count) (laid-holes W pos b _ (supply .between) {h = h} {k = 0} {n = 0} {new = new} (record {
           test = touched-new W h 0 0 o (length new) some;
           room-for = omega (arith, count, len);
@@ -103,7 +105,7 @@ module _ {g : Layout} {b : List ℕ} {f o : ℕ} {new : List ℕ} (w : Writing g
       }
 
   past-leaf : 0 < size g b f → Past (shadowWithLength g fresh b (inodeOf g b f) o new c)
-  unfolding shadowWithLength plan allCommitted walkTo rootWalk
+  unfolding shadowWithLength plan allCommitted fileWalk rootWalk
   past-leaf l room among =
       let h : ℕ = rootHeight g b f in
       let k : ℕ = rootBlock g b f in
@@ -115,6 +117,7 @@ module _ {g : Layout} {b : List ℕ} {f o : ℕ} {new : List ℕ} (w : Writing g
       let high = leaf-height w some l (omega arith) under supply room in
       let block : rootBlock g b′ f ≡ fresh (c + freshNeed W b h k n o (length new) - 1) =
       leaf-block w some l (omega arith) under supply room ∙ ap (λ (x : ℕ). fresh (c + x - 1)) len in
+      let on′ : FileOn g b′ f = record { fit = w .on .fit; board = leaf-good w some l (omega arith) under supply room .good .outcome .board; file = w .on .file } in
       let now = leaf-size w some l (omega arith) under supply room in
       let end : ℕ = c + length (treePages g fresh b f o new c) + 1 in
       let there : Between fresh end (blockCount g b - 1) = record { nonzero = λ i u. supply .between .nonzero i (omega arith); below = λ i u. supply .between .below i (omega arith) } in
@@ -125,8 +128,8 @@ module _ {g : Layout} {b : List ℕ} {f o : ℕ} {new : List ℕ} (w : Writing g
       } in
       record {
         copied = λ z. rw (high, block) (laid-path W pos b b′ there (λ q. member q taken) c among laid (omega arith) l (omega arith) past);
-        arrives = λ x. rw (high, block, now, lt-ltb (n - 1) (span W h) within)
-            (laid-arrives W pos b b′ there _ laid l (omega arith) past (omega arith) (rw (lt-ltb (n - 1) (span W h) within) at x));
+        arrives = λ x. rw (walk-to-file on′ (n - 1), high, block, now, lt-ltb (n - 1) (span W h) within)
+            (laid-arrives W pos b b′ there _ laid l (omega arith) past (omega arith) (rw (walk-to-file (w .on) (n - 1), lt-ltb (n - 1) (span W h) within) at x));
         holes = rw (high, block) (laid-holes W pos b b′ there laid (λ z. past));
       }
 
@@ -200,8 +203,8 @@ module _ {g : Layout} {b : List ℕ} {f o : ℕ} {new : List ℕ} (w : Writing g
       walks-kept : (i : ℕ) → T (atBlock (walkTo g b f i)) → T (atBlock (walkTo g c f i))
       unfolding atBlock
       walks-kept i x = elim (split (span (g .words) (rootHeight g b f)) i) [
-        | inl beyond ↦ absurd (rw (beyond-hole g b f i beyond) at x)
-        | inr within ↦ rw (growth-walks grow lent enough i within) x
+        | inl beyond ↦ absurd (rw (walk-to-file (w .on) i, beyond-hole g b f i beyond) at x)
+        | inr within ↦ rw (walk-to-file (grown-writing w some lent grow enough .on) i, growth-walks grow lent enough i within, ← (walk-to-file (w .on) i)) x
       ]
 
       after-growth : Wanted p (afterwards p (chosenWay g fresh c (inodeOf g c f) o new (p .taken)))

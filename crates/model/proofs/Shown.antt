@@ -15,9 +15,8 @@ use Rattle.model.specs.Lists.{tabulate, joined, every, sum, distinct, on
 use Rattle.model.specs.Words.{byteOf}
 use Rattle.model.specs.Layout.{Layout, Fits, files}
 use Rattle.model.specs.Tree.{ending, span, link, walk, shown}
-use Rattle.model.specs.Board.{rootWalk, rootBlocks, rootSound, trailerWord, greatest, blockCount, trailer, inodeBlock, inodePointer, leaf, rootAddress, rootHeight, rootBlock, root, size, walkTo, contents, fileBlocks, liveBlocks, free, inRange, wordCountSound, trailerSound, leafSound, fileSound, treesSound, accepted, sizeAddress}
+use Rattle.model.specs.Board.{rootWalk, rootBlocks, rootSound, trailerWord, greatest, blockCount, trailer, inodeBlock, inodePointer, leaf, rootAddress, rootHeight, rootBlock, root, size, fileWalk, contents, fileBlocks, liveBlocks, free, inRange, wordCountSound, trailerSound, leafSound, fileSound, treesSound, accepted, sizeAddress}
 use Rattle.model.specs.Calls.{wordCountFault, boardFaults, checkAnswer}
-use Rattle.model.specs.Claims.{Shows}
 use Rattle.model.proofs.Cases.{split, every-cong, tabulate-cong, joined-cong}
 use Rattle.model.proofs.Sums.{sum-at}
 use Rattle.model.proofs.Counting.{one-same, occ-append, occ-joined, occ-tabulate}
@@ -81,7 +80,7 @@ root-walk-byte W pos b r n i v = elim (split (span W (r % W)) i) [
 ]
 
 pub contents-bytes : (g : Layout) → 0 < g .words → (b : List ℕ) (f : ℕ) → contents g b f ≡ tabulate (size g b f) (rootByte (g .words) b (root g b f) (size g b f))
-unfolding contents walkTo
+unfolding contents fileWalk
 contents-bytes g pos b f = tabulate-cong (size g b f) _ _ (λ i v. root-walk-byte (g .words) pos b (root g b f) (size g b f) i v)
 
 -- ---- a file on boards that agree on it
@@ -190,7 +189,7 @@ module _ (g : Layout) (fit : Fits g) (b b′ : List ℕ) (s : Same g b b′) whe
   unfolding liveBlocks
   same-live = ap₂ _∷_ same-inode (ap₂ _++_ (tabulate-cong (g .leaves) (leaf g b) (leaf g b′) same-leaf) (joined-cong (files g) (fileBlocks g b) (fileBlocks g b′) same-blocks))
 
-  same-free : free g b ≡ free g b′
+  pub same-free : free g b ≡ free g b′
   unfolding free
   same-free = rw (same-count, same-live)
 
@@ -203,8 +202,8 @@ module _ (g : Layout) (fit : Fits g) (b b′ : List ℕ) (s : Same g b b′) whe
   same-contents f h = rw (contents-bytes g pos b f, contents-bytes g pos b′ f, ← (s .sizes f h))
       (tabulate-cong (size g b f) _ _ (root-byte (g .words) pos b b′ (root g b f) (root g b′ f) (size g b f) (s .roots f h) (s .trees f h)))
 
-  same-walk : (f : ℕ) → f < files g → (i : ℕ) → walkTo g b f i ≡ walkTo g b′ f i
-  unfolding walkTo
+  pub same-walk : (f : ℕ) → f < files g → (i : ℕ) → fileWalk g b f i ≡ fileWalk g b′ f i
+  unfolding fileWalk
   same-walk f h i = rw (← (s .sizes f h)) (root-walk (g .words) pos b b′ (root g b f) (root g b′ f) (size g b f) (s .roots f h) (s .trees f h) i)
 
   same-trees : treesSound g b ≡ treesSound g b′
@@ -215,20 +214,9 @@ module _ (g : Layout) (fit : Fits g) (b b′ : List ℕ) (s : Same g b b′) whe
   unfolding accepted
   same-accepted = rw (words-kept g b b′ (s .lengths), trailer-kept g b b′ (s .lengths) fit (s .trailers), same-trees)
 
-  same-check : checkAnswer g b ≡ checkAnswer g b′
+  pub same-check : checkAnswer g b ≡ checkAnswer g b′
   unfolding checkAnswer boardFaults wordCountFault
   same-check = rw (words-kept g b b′ (s .lengths), trailer-kept g b b′ (s .lengths) fit (s .trailers), same-trees)
-
-  -- so it shows the same
-  pub same-shows : Shows g b b′
-  same-shows = record {
-    boards = sym same-accepted;
-    checks = sym same-check;
-    lives = sym same-live;
-    frees = sym same-free;
-    walks = λ f h i. sym (same-walk f h i);
-    reads = λ f h. sym (same-contents f h);
-  }
 
 -- ---- live blocks, counted
 

@@ -4,7 +4,7 @@ use mathlib.Core.Bool.{Bool, true, false}
 use mathlib.Core.List.{List, _++_}
 use Prim.Native.Nat.{ℕ, zero, suc, _+_, _-_, _*_, _/_, _%_, _^_, _≤_, _<_}
 use native.Mathlib.Omega.{arith}
-use native.Mathlib.Nat.{div-div-eq-div-mul, mul-comm, mul-assoc, pow-succ', one-le-pow, mod-lt, div-lt-iff-lt-mul}
+use native.Mathlib.Nat.{div-div-eq-div-mul, mul-comm, mul-assoc, pow-succ', one-le-pow, mod-lt, div-lt-iff-lt-mul, div-add-mod'}
 use lib.ListN.{take, drop}
 use lib.Seq.{take-at, drop-at}
 use lib.Arith.{mod-mul, digits-div}
@@ -44,6 +44,16 @@ module _ (W : ℕ) (pos : 0 < W) where
       digits-div (i′ / (8 * W) % W ^ h) (mod-lt i′ block-pos),
       e,
     )
+
+  -- which block a byte is in, by the child that it is in and its block there
+  pub block-by-child : (h i : ℕ) → i / (8 * W) ≡ i / span W h * W ^ h + i % span W h / (8 * W)
+  block-by-child h i = rw (
+    span-blocks h,
+    mod-mul i (spanned-pos h) block-pos,
+    digits-div (i / (8 * W) % W ^ h) (mod-lt i block-pos),
+    mul-comm (W ^ h) (8 * W),
+    ← div-div-eq-div-mul i (8 * W) (W ^ h),
+  ) (sym (div-add-mod' (i / (8 * W)) (W ^ h)))
 
   less-same : (i i′ h : ℕ) → i / (8 * W) ≡ i′ / (8 * W) → i < span W h → i′ < span W h
   less-same i i′ h e l =

@@ -13,7 +13,7 @@ use Rattle.model.specs.declared.Inode.{Inode}
 use Rattle.model.specs.Lists.{tabulate, sum, occ}
 use Rattle.model.specs.Layout.{Layout, Fits}
 use Rattle.model.specs.Tree.{live, least}
-use Rattle.model.specs.Board.{leaf, rootAddress, sizeAddress, rootHeight, rootBlock, root, size, inodeOf, walkTo, contents, liveBlocks}
+use Rattle.model.specs.Board.{leaf, rootAddress, sizeAddress, rootHeight, rootBlock, root, size, inodeOf, fileWalk, contents, liveBlocks}
 use Rattle.model.specs.Store.{Store, store}
 use Rattle.model.specs.Plan.{Plan, plan, Step, step}
 use Rattle.model.specs.Fresh.{Page, stored, freshPointer}
@@ -114,7 +114,7 @@ module _ {g : Layout} {b : List ℕ} {f o : ℕ} {new : List ℕ} (w : Writing g
   inode-live-at a e = rw e (leaf-live g b (f / g .inodes) (leaf-of g fit f file))
 
   -- 3: *e ≤ s, all bytes fall in one word and its data block exists*
-  single-parts : (K : ℕ) → singleBlock g b f o (o + length new) ≡ Block K → (o + length new ≤ size g b f) × (o / 8 ≡ (o + length new - 1) / 8) × (walkTo g b f o ≡ Block K)
+  single-parts : (K : ℕ) → singleBlock g b f o (o + length new) ≡ Block K → (o + length new ≤ size g b f) × (o / 8 ≡ (o + length new - 1) / 8) × (fileWalk g b f o ≡ Block K)
   unfolding singleBlock
   single-parts K e = elim (split (o + length new) (size g b f)) [
     | inl l ↦ elim (decide (o / 8) ((o + length new - 1) / 8)) [

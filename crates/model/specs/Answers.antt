@@ -7,6 +7,8 @@ use Rattle.model.specs.declared.Fault.{Fault}
 use Rattle.model.specs.declared.Fault.the-variants.{WordCount, Trailer, Damaged, FileNumber, End, FreeBlocks, PlanLength, PairCount, Address}
 use Rattle.model.specs.declared.Answer.{Answer}
 use Rattle.model.specs.declared.Answer.the-variants.{Done, Refused}
+use Rattle.model.specs.declared.WalkEnd.{WalkEnd}
+use Rattle.model.specs.declared.WalkEnd.the-variants.{Block, Hole}
 
 -- the number of each refusal; *5 never occurs*
 unfoldable pub number : Fault → ℕ
@@ -24,6 +26,11 @@ number Address = 10
 unfoldable pub signed : Answer → ℤ
 signed (Done n) = pos n
 signed (Refused f) = negℤ (pos (number f))
+
+-- where *the walk to a byte* ended, as C gets it: the number of the block, and 0, which is no data block, for a hole
+unfoldable pub ended : WalkEnd → ℤ
+ended (Block k) = pos k
+ended Hole = pos 0
 
 -- a call's list of refusals, in the document's order: each fault with the test that finds it
 abbrev pub Faults : Type 0

@@ -9,7 +9,7 @@ use Rattle.model.specs.declared.WalkEnd.{WalkEnd}
 use Rattle.model.specs.declared.WalkEnd.the-variants.{Hole}
 use Rattle.model.specs.Lists.{tabulate, joined, every, pickFrom, member, distinct}
 use Rattle.model.specs.Layout.{Layout, files}
-use Rattle.model.specs.Tree.{span, cell, walk, shown, blocks, sound}
+use Rattle.model.specs.Tree.{span, cell, link, walk, shown, blocks, dataBlocks, sound}
 
 -- A file by its root word r and its size n. *A file's root word is W × block + height.*
 module _ (W : ℕ) (b : List ℕ) (r n : ℕ) where
@@ -87,17 +87,34 @@ module _ (g : Layout) (b : List ℕ) where
   abbrev pub inodeOf : ℕ → Inode
   inodeOf f = record { pointer = g .words * inodeBlock + f / g .inodes; at = rootAddress f; root = root f; size = size f }
 
-  -- *the walk to a byte* of a file
-  unfoldable pub walkTo : ℕ → ℕ → WalkEnd
-  walkTo f i = rootWalk (g .words) b (root f) (size f) i
+  -- the walk to byte i of a file by its root word and its size
+  unfoldable pub fileWalk : ℕ → ℕ → WalkEnd
+  fileWalk f i = rootWalk (g .words) b (root f) (size f) i
 
   -- *What a file reads as is its size and the bytes below it*: its contents, as many bytes as the size
   unfoldable pub contents : ℕ → List ℕ
-  contents f = tabulate (size f) (λ i. shown (g .words) b (walkTo f i) (i % span (g .words) 0))
+  contents f = tabulate (size f) (λ i. shown (g .words) b (fileWalk f i) (i % span (g .words) 0))
+
+  -- *The walk to a byte* as a call, which takes any board and any file number. *Block number 0 means null: a hole, all zeros*, here also where a board
+  -- is so short or damaged that block 0 would be its trailer, its inode pointer block or a leaf. First the leaf of file f
+  unfoldable pub linkedLeaf : ℕ → ℕ
+  linkedLeaf f = link (g .words) b (link (g .words) b (blockCount - 1) 0 / g .words) (f / g .inodes) / g .words
+
+  -- then word j of its inode: 0 the root, 1 the size
+  unfoldable pub linkedInode : ℕ → ℕ → ℕ
+  linkedInode f j = link (g .words) b (linkedLeaf f) (2 * (f % g .inodes) + j)
+
+  -- and the walk; a file that there is not is a hole
+  unfoldable pub walkTo : ℕ → ℕ → WalkEnd
+  walkTo f i = cond (ltb f (files g)) (rootWalk (g .words) b (linkedInode f 0) (linkedInode f 1) i) Hole
 
   -- the blocks of a file that are *reached by live pointers only*
   unfoldable pub fileBlocks : ℕ → List ℕ
   fileBlocks f = rootBlocks (g .words) b (root f) (size f)
+
+  -- those of them that hold data
+  unfoldable pub fileData : ℕ → List ℕ
+  fileData f = dataBlocks (g .words) b (rootHeight f) (rootBlock f) (size f)
 
   -- *A block is live if it is the inode pointer block, an inode leaf, or reached by live pointers only*; as often as it is reached
   unfoldable pub liveBlocks : List ℕ

@@ -12,7 +12,7 @@ use Rattle.model.specs.Lists.{tabulate, concat}
 use Rattle.model.specs.Words.{byteOf, wordOf}
 use Rattle.model.specs.Layout.{Layout}
 use Rattle.model.specs.Tree.{live, span, least, cell}
-use Rattle.model.specs.Board.{rootAddress, rootHeight, rootBlock, size, sizeAddress, inodeOf, walkTo}
+use Rattle.model.specs.Board.{rootAddress, rootHeight, rootBlock, size, sizeAddress, inodeOf, fileWalk}
 use Rattle.model.specs.Store.{Store, store, performed}
 use Rattle.model.specs.Plan.{Plan, plan, step, planEpochs, afterwards}
 use Rattle.model.specs.Fresh.{Page, splice, stored, freshPointer, build}
@@ -78,7 +78,7 @@ splicedWord o new x = wordOf 8 (λ i. splice o new (byteOf x i) i)
 
 -- *If e ≤ s, all bytes fall in one word and its data block exists*: that block. Growth comes before no such write, so the lent board decides
 unfoldable pub singleBlock : (g : Layout) (b : List ℕ) (f o e : ℕ) → WalkEnd
-singleBlock g b f o e = cond (leb e (size g b f) && eqb (o / 8) ((e - 1) / 8)) (walkTo g b f o) Hole
+singleBlock g b f o e = cond (leb e (size g b f) && eqb (o / 8) ((e - 1) / 8)) (fileWalk g b f o) Hole
 
 -- *one store*, in data block k
 unfoldable pub singleWord : (g : Layout) (b : List ℕ) (k o : ℕ) → List ℕ → Plan

@@ -8,11 +8,12 @@ use lib.ListN.{length, getD, take, drop}
 use lib.Dec.{T, leb, eqb}
 use Rattle.model.specs.declared.Answer.the-variants.{Done, Refused}
 use Rattle.model.specs.declared.Fault.the-variants.{Trailer}
+use Rattle.model.specs.declared.WalkEnd.the-variants.{Block, Hole}
 use Rattle.model.specs.Lists.{sum, all, filter, member, distinct}
 use Rattle.model.specs.Words.{byteOf, Bytes}
 use Rattle.model.specs.Layout.{Layout, Fits, house, files}
 use Rattle.model.specs.Tree.{span, cell, link}
-use Rattle.model.specs.Board.{blockCount, trailer, rootHeight, rootBlock, size, walkTo, contents, liveBlocks, free, inRange, accepted, wordCountSound, inodeOf}
+use Rattle.model.specs.Board.{blockCount, trailer, rootHeight, rootBlock, size, fileWalk, contents, walkTo, fileBlocks, fileData, liveBlocks, free, inRange, accepted, wordCountSound, inodeOf}
 use Rattle.model.specs.Store.{Store, store, isBarrier, performed, stores, epochs}
 use Rattle.model.specs.Hidden.{hidden}
 use Rattle.model.specs.Fresh.{partLength, dataPage, pointerPage}
@@ -28,6 +29,25 @@ use Rattle.model.specs.Safe.{left, SafePlan, decided}
 -- *Check* answers 0 exactly where the board is accepted
 abbrev pub CheckRule : Type 0
 CheckRule = (g : Layout) (b : List ℕ) → (checkAnswer g b ≡ Done 0) ↔ T (accepted g b)
+
+-- ---- The walk to a byte
+
+-- the walk to each byte of file f
+pub record Walked (g : Layout) (b : List ℕ) (f : ℕ) : Type 0 where
+  -- it is the walk by which the file's contents are defined
+  pub same : (i : ℕ) → walkTo g b f i ≡ fileWalk g b f i
+  -- it *ends at a block*, a live data block of the file, *or in a hole*
+  pub ends : (i k : ℕ) → walkTo g b f i ≡ Block k → T (member k (fileData g b f))
+  pub lives : (k : ℕ) → T (member k (fileData g b f)) → T (member k (fileBlocks g b f))
+  -- at each of these blocks, from a byte below the size, and at none from bytes that lie in different blocks of the file
+  pub reaches : (k : ℕ) → T (member k (fileData g b f)) → (i : ℕ) × (i < size g b f) × (walkTo g b f i ≡ Block k)
+  pub once : (i j k : ℕ) → walkTo g b f i ≡ Block k → walkTo g b f j ≡ Block k → i / span (g .words) 0 ≡ j / span (g .words) 0
+  -- *under a pointer that isn't live* is a hole: where the byte's block of the file would begin at or past the size
+  pub past : (i : ℕ) → size g b f ≤ i / span (g .words) 0 * span (g .words) 0 → walkTo g b f i ≡ Hole
+
+-- in every file of an accepted board
+abbrev pub WalkRule : Type 0
+WalkRule = (g : Layout) → Fits g → (b : List ℕ) → T (accepted g b) → (f : ℕ) → f < files g → Walked g b f
 
 -- ---- Plans
 
@@ -92,11 +112,12 @@ pub record SameCalls (g : Layout) (b b′ : List ℕ) : Type 0 where
   pub counts : freeCountAnswer g b ≡ freeCountAnswer g b′
   pub sizes : (f : ℕ) → sizeAnswer g b f ≡ sizeAnswer g b′ f
   pub reads : (f o : ℕ) (out : List ℕ) → (readAnswer g b f o out ≡ readAnswer g b′ f o out) × (readBuffer g b f o out ≡ readBuffer g b′ f o out)
+  pub walks : (f i : ℕ) → walkTo g b f i ≡ walkTo g b′ f i
   pub changes : (c : Change) (slice : List ℕ) → called g b c slice ≡ called g b′ c slice
   pub formats : (slice : List ℕ) → format g b slice ≡ format g b′ slice
   pub performs : (slice : List ℕ) (k : ℕ) → performAnswer g b slice k ≡ performAnswer g b′ slice k
 
--- boards that differ in block 0 alone
+-- boards that differ in block 0 alone, accepted or not
 abbrev pub BootRule : Type 0
 BootRule = (g : Layout) → Fits g → (b b′ : List ℕ) → length b ≡ length b′ → drop (g .words) b ≡ drop (g .words) b′ → SameCalls g b b′
 

@@ -74,6 +74,11 @@ module _ (W : ℕ) where
     blocks (suc h) (suc k) zero = []
     blocks (suc h) (suc k) (suc n) = suc k ∷ joined W (λ j. blocks h (cell (suc k) j / W) (suc n - j * span h))
 
+    -- those of them that hold data: *at 0 the block holds data*
+    unfoldable pub dataBlocks : ℕ → ℕ → ℕ → List ℕ
+    dataBlocks zero k n = blocks zero k n
+    dataBlocks (suc h) k n = joined W (λ j. dataBlocks h (link k j / W) (n - j * span h))
+
     -- every live pointer of the tree *has a block* below top, *live ones may be null, and low bits 0*; the low bits of the tree's own are not looked at
     unfoldable pub sound : ℕ → ℕ → ℕ → ℕ → Bool
     sound top zero zero n = true

@@ -13,7 +13,7 @@ use Rattle.model.specs.declared.WalkEnd.the-variants.{Block, Hole}
 use Rattle.model.specs.declared.Kind.{Kind}
 use Rattle.model.specs.Layout.{Layout, layoutOf}
 use Rattle.model.specs.Tree.{span}
-use Rattle.model.specs.Board.{rootWalk, root, size, walkTo, rootBlocks, fileBlocks, wordCountSound}
+use Rattle.model.specs.Board.{rootWalk, root, size, fileWalk, rootBlocks, fileBlocks, wordCountSound}
 use Rattle.model.specs.Change.{singleBlock, singleWord, grownPlan, somePlan, writePlan}
 use Rattle.model.proofs.Cases.{split, is-true}
 use Rattle.model.proofs.Descent.{hole≢block, walk-inside}
@@ -42,7 +42,7 @@ module _ {g : Layout} {b : List ℕ} {f : ℕ} {n : Inode} (i : InodeOf g b f n)
 
   -- else where its block exists
   pub one-word : {w v : WalkEnd} → e ≤ n .size → o / 8 ≡ (e - 1) / 8 → w ≡ rootWalk (g .words) b (n .root) (n .size) o → w ≡ v → singleBlock g b f o e ≡ v
-  unfolding singleBlock walkTo
+  unfolding singleBlock fileWalk
   one-word l word ew ev = rw (le-leb e (size g b f) (rw (i .is) at l), eq-eqb (o / 8) ((e - 1) / 8) word, ← ev, ew, i .is)
 
 -- the block where the walk ends is on the board

@@ -14,7 +14,7 @@ use Rattle.model.specs.declared.Answer.the-variants.{Done, Refused}
 use Rattle.model.specs.Lists.{tabulate, pickFrom}
 use Rattle.model.specs.Layout.{Layout, files}
 use Rattle.model.specs.Tree.{span}
-use Rattle.model.specs.Board.{blockCount, root, size, walkTo, contents, free, accepted}
+use Rattle.model.specs.Board.{blockCount, root, size, fileWalk, contents, free, accepted}
 use Rattle.model.specs.Answers.{answered, unlessRefused}
 use Rattle.model.specs.Calls.{boardFaults, fileFaults, checkAnswer, freeCountAnswer, readCount, readAnswer, readBuffer}
 use Rattle.model.proofs.Cases.{split}
@@ -65,7 +65,7 @@ file-found g b f e z = by (checkAnswer g b) refl
 
 -- the bytes of a read are a part of the contents
 contents-part : (g : Layout) (b : List ℕ) (f o c : ℕ) → c ≤ size g b f - o → take c (drop o (contents g b f)) ≡ tabulate c (λ d. fileByte (g .words) b (root g b f) (size g b f) (o + d))
-unfolding contents walkTo span tabulate
+unfolding contents fileWalk span tabulate
 contents-part g b f o c l = elim (split (o + c) (size g b f)) [
   | inl u ↦ tabulate-part c o (size g b f) (fileByte (g .words) b (root g b f) (size g b f)) u
   | inr u ↦ let z : c ≡ 0 = omega arith in rw z

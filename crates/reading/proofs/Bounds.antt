@@ -1,18 +1,23 @@
--- No answer is too great for a signed number.
+-- No answer is too great for a signed number, nor is the number of a block where a walk ends.
 use mathlib.Core.Path.{_≡_, refl}
+use mathlib.Core.Logic.{inl, inr}
 use mathlib.Core.Bool.{Bool, true, false, not, cond}
 use mathlib.Core.List.{List, [], _∷_}
-use Prim.Native.Nat.{ℕ, zero, suc, _+_, _-_, _/_, _^_, _≤_, _<_}
+use Prim.Native.Nat.{ℕ, zero, suc, _+_, _-_, _*_, _/_, _%_, _^_, _≤_, _<_}
 use native.Mathlib.Omega.{arith}
-use lib.ListN.{length}
+use lib.ListN.{length, getD}
+use borrow.Author.Tests.{lt-ltb, le-ltb}
 use Rattle.model.specs.declared.Answer.{Answer}
 use Rattle.model.specs.declared.Answer.the-variants.{Done, Refused}
+use Rattle.model.specs.declared.WalkEnd.the-variants.{Block}
 use Rattle.model.specs.Lists.{consIf, pickFrom, member}
-use Rattle.model.specs.Layout.{house}
-use Rattle.model.specs.Tree.{span}
-use Rattle.model.specs.Board.{greatest, blockCount, size, liveBlocks, free}
+use Rattle.model.specs.Layout.{house, files}
+use Rattle.model.specs.Tree.{span, cell, link, walk}
+use Rattle.model.specs.Board.{rootWalk, greatest, blockCount, size, linkedLeaf, linkedInode, walkTo, liveBlocks, free}
 use Rattle.model.specs.Answers.{Faults, answered, counted}
 use Rattle.model.specs.Calls.{boardFaults, fileFaults, checkAnswer, freeCountAnswer, sizeAnswer, readCount, readAnswer}
+use Rattle.model.proofs.Cases.{split}
+use Rattle.model.proofs.Descent.{hole≢block, ending-is}
 use Rattle.model.proofs.Accepting.{facts}
 use Rattle.model.proofs.Formatted.{house-fits}
 use Rattle.model.proofs.Refusals.{same-refused, same-done}
@@ -65,3 +70,32 @@ module _ (b : List ℕ) {r : Answer} where
       let n : ℕ = readCount house b f o out in
       let u : n ≤ length out = omega arith in
       rw (c .answer) (omega (arith, counted-most (fileFaults house b f) n))
+
+-- ---- Where a walk ends
+
+-- on any words, the block is one that a word points to
+module _ (b : List ℕ) (words : (i : ℕ) → getD b i 0 < 2 ^ 64) where
+  link-small : (k j : ℕ) → link 8 b k j / 8 < 2 ^ 61
+  unfolding link cell
+  link-small zero j = omega arith
+  link-small (suc k) j = omega (arith, words (8 * suc k + j))
+
+  walk-most : (h k n i q : ℕ) → k < 2 ^ 61 → walk 8 b h k n i ≡ Block q → q < 2 ^ 61
+  unfolding walk
+  walk-most zero k n i q l e = rw (ending-is k n q e .1) l
+  walk-most (suc h) k n i q l e = let j : ℕ = i / span 8 h in
+      walk-most h (link 8 b k j / 8) (n - j * span 8 h) (i % span 8 h) q (link-small k j) e
+
+  root-walk-most : (r n i q : ℕ) → r / 8 < 2 ^ 61 → rootWalk 8 b r n i ≡ Block q → q < 2 ^ 61
+  unfolding rootWalk
+  root-walk-most r n i q l e = elim (split (span 8 (r % 8)) i) [
+    | inl past ↦ absurd (hole≢block q (rw (le-ltb i (span 8 (r % 8)) past) at e))
+    | inr u ↦ walk-most (r % 8) (r / 8) n i q l (rw (lt-ltb i (span 8 (r % 8)) u) at e)
+  ]
+
+  pub walk-small : (f i q : ℕ) → walkTo house b f i ≡ Block q → q < 2 ^ 63
+  unfolding walkTo linkedInode
+  walk-small f i q e = elim (split (files house) f) [
+    | inl none ↦ absurd (hole≢block q (rw (le-ltb f (files house) none) at e))
+    | inr l ↦ omega (arith, root-walk-most _ _ i q (link-small (linkedLeaf house b f) (2 * (f % 4) + 0)) (rw (lt-ltb f (files house) l) at e))
+  ]

@@ -108,11 +108,15 @@ pub fn read(board: &[u64], file: u64, offset: u64, out: &mut [u8]) -> Answer
     read_kind(Kind::House, 3, board, file, offset, out)
 }
 
-// The walk to a byte of a file. It looks at no more of the board than its path, and refuses nothing.
+// The walk to a byte of a file. It looks at no more of the board than its path, and refuses nothing; what is null on the way, on whichever board, reads as
+// zeros, and a file above 31 is a hole.
 pub fn walk_to(board: &[u64], file: u64, byte: u64) -> WalkEnd
     ensures { λ r. ⌜ r ≡ walkTo house (now (board .entry)) file byte ⌝ }
 {
-    let root = boards::root(Kind::House, board, file);
-    let n = boards::size(Kind::House, board, file);
+    if 32 <= file {
+        return WalkEnd::Hole;
+    }
+    let root = boards::linked_inode(Kind::House, board, file, 0);
+    let n = boards::linked_inode(Kind::House, board, file, 1);
     root_walk(3, board, root, n, byte)
 }
