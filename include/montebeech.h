@@ -3,7 +3,8 @@
  *
  * Two forms. The calls on an image (libcabinet.a) read: an image is the bytes of a board, eight to a word, byte 0 of
  * each word first, 1,024 to 65,536 bytes, a multiple of 64. The calls on words (libhosts.a) read and change: a board
- * is 128 to 8,192 64-bit words, a multiple of 8. Any image and any words may be passed: a damaged board is refused.
+ * is 128 to 8,192 64-bit words, a multiple of 8. Any image and any words may be passed: a damaged board is refused by
+ * each call that has refusal 3 in its list.
  *
  * Each function answers 0 or more, or -r for the refusal r: the first of enum montebeech_refusal that applies and that
  * the function has in its list. A refusal leaves every buffer, plan and board as it was.
@@ -79,6 +80,14 @@ int64_t montebeech_words_size(const uint64_t *board, size_t board_len, uint64_t 
 /* As montebeech_read. Refuses 1, 2, 3, 4. */
 int64_t montebeech_words_read(const uint64_t *board, size_t board_len, uint64_t file, uint64_t offset, uint8_t *out,
                               size_t out_len);
+
+/*
+ * Answers the number of the data block in which a byte of a file lies, or 0 where the byte is in a hole. Block k is the
+ * words 8 * k to 8 * k + 7 of the board. A byte past the size is in a block if that block's first byte lies below the
+ * size. In a file above 31 every byte is in a hole. Refuses nothing and tests no board: on a board that
+ * montebeech_words_check refuses, the number may be that of any block, even of one off the board.
+ */
+int64_t montebeech_words_walk(const uint64_t *board, size_t board_len, uint64_t file, uint64_t byte);
 
 /*
  * The next three plan a change and store nothing on the board. They write the plan to the start of plan and answer the
