@@ -133,15 +133,15 @@ pub fn survey(kind: Kind, bits: u64, board: &[u64], marks: &mut [u64]) -> Answer
 pub fn unmarked(marks: &[u64], top: u64) -> u64
     ensures { λ r. ⌜ r ≡ length (pickFrom 1 (top - 1) (spare (now (marks .entry)))) ⌝ }
 {
-    let mut count = 0;
+    let mut free = 0;
     let mut k = 1;
     while k < top {
         if word(marks, k) == 0 {
-            count += 1;
+            free += 1;
         }
         k += 1;
     }
-    count
+    free
 }
 
 // Lists the blocks from 1 to top - 1 that are not marked, at the front of a table. Answers how many there are.

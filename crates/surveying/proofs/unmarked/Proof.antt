@@ -26,10 +26,10 @@ module _ (m : List ℕ) {top k w : ℕ} (l : k < top) (ew : w ≡ getD m k 0) wh
   used-one f = ap length (pick-next k top (spare m) l) ∙ rw (ne-eqb (getD m k 0) 0 (λ e. f (ew ∙ e)))
 
 abbrev Inv-loop : tie.InvT-loop
-Inv-loop marks top count₀ k₀ count k = (1 ≤ k) × (count < k) × (count + ahead marks top k ≡ ahead marks top 1)
+Inv-loop marks top free₀ k₀ free k = (1 ≤ k) × (free < k) × (free + ahead marks top k ≡ ahead marks top 1)
 
 abbrev μ-loop : tie.MeasureT-loop
-μ-loop marks top count₀ k₀ count k = top - k
+μ-loop marks top free₀ k₀ free k = top - k
 
 loop-holds : tie.Need-loop-holds Inv-loop μ-loop
 loop-holds c = (omega arith, omega arith, omega arith)
