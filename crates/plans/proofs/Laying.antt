@@ -28,7 +28,7 @@ flat-append [] ys = refl
 flat-append (x ∷ xs) ys = ap (λ (l : List ℕ). x .at ∷ x .value ∷ l) (flat-append xs ys)
 
 -- pairs laid after others
-pub laid-append : (plan : List ℕ) (p : ℕ) (xs ys : List Store) → laid plan p (xs ++ ys) ≡ laid (laid plan p xs) (p + length xs) ys
+laid-append : (plan : List ℕ) (p : ℕ) (xs ys : List Store) → laid plan p (xs ++ ys) ≡ laid (laid plan p xs) (p + length xs) ys
 unfolding laid
 laid-append plan p xs ys =
     ap (λ (l : List ℕ). sets plan (2 * p) l) (flat-append xs ys)

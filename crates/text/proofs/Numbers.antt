@@ -11,7 +11,7 @@ use Rattle.model.specs.Lister.{digits}
 use Rattle.text.specs.Wrote.{Wrote}
 use Rattle.text.proofs.Writing.{both, told}
 
-pub length-digits : (most n : ℕ) → length (digits most n) ≤ most + 1
+length-digits : (most n : ℕ) → length (digits most n) ≤ most + 1
 unfolding digits
 length-digits zero n = omega arith
 length-digits (suc most) n = by (length-digits most (n / 10)) (ltb n 10)

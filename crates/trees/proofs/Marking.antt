@@ -13,12 +13,12 @@ use Rattle.model.specs.Lists.{every, joined}
 use Rattle.model.proofs.Cases.{split}
 use Rattle.trees.specs.Marks.{unmarked, marked, Marked}
 
-pub unmarked-append : (m xs ys : List ℕ) → unmarked m (xs ++ ys) ≡ (unmarked m xs && unmarked (marked m xs) ys)
+unmarked-append : (m xs ys : List ℕ) → unmarked m (xs ++ ys) ≡ (unmarked m xs && unmarked (marked m xs) ys)
 unfolding unmarked marked
 unmarked-append m [] ys = refl
 unmarked-append m (x ∷ xs) ys = rw (unmarked-append (set m x 1) xs ys, and-assoc)
 
-pub marked-append : (m xs ys : List ℕ) → marked m (xs ++ ys) ≡ marked (marked m xs) ys
+marked-append : (m xs ys : List ℕ) → marked m (xs ++ ys) ≡ marked (marked m xs) ys
 unfolding marked
 marked-append m [] ys = refl
 marked-append m (x ∷ xs) ys = marked-append (set m x 1) xs ys
