@@ -14,7 +14,7 @@ import sys
 HERE = os.path.dirname(os.path.abspath(__file__))
 sys.path.insert(0, os.path.join(os.path.dirname(HERE), 'tests', 'reference'))
 import board as B
-from making import PLAN, accepted, formatted, image_of
+from making import e2_board, formatted, image_of, with_writes
 
 SCORES, METER, INITIALS, NOTES = 0, 1, 2, 3
 
@@ -23,20 +23,13 @@ SCORES, METER, INITIALS, NOTES = 0, 1, 2, 3
 
 
 def with_files(blocks, files):
-    words = formatted([0] * (8 * blocks))
-    for file, new in files:
-        words = accepted(words, B.write(words, file, 0, list(new), PLAN))
-    return words
+    return with_writes(formatted([0] * (8 * blocks)), [(file, 0, new) for file, new in files])
 
 
 def records(line, count):
     """The first count bytes of numbered lines."""
     text = ''.join(line % i for i in range(count))
     return text.encode()[:count]
-
-
-def e2():
-    return with_files(16, [(0, b'AB')])
 
 
 def cabinet():
@@ -55,8 +48,7 @@ def full():
 
 def inode(words, file):
     """The address of the file's root word; the size follows it."""
-    pointers = words[-8] // 8
-    return words[8 * pointers + file // 4] // 8 * 8 + 2 * (file % 4)
+    return B.Survey(words).inode(file)
 
 
 def trailer(k, value):
@@ -134,7 +126,7 @@ def wrong_sizes():
 
 
 def images():
-    made = {'e2': image_of(e2()), 'cabinet': image_of(cabinet()), 'full': image_of(full())}
+    made = {'e2': image_of(e2_board([0] * 128)), 'cabinet': image_of(cabinet()), 'full': image_of(full())}
     for name, image in wrong_sizes():
         made['damaged-' + name] = image
     for name, change in DAMAGED:

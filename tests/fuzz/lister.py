@@ -12,13 +12,13 @@ import concurrent.futures
 import glob
 import os
 import random
-import struct
 import subprocess
 import sys
 
 ROOT = os.path.dirname(os.path.dirname(os.path.dirname(os.path.abspath(__file__))))
 sys.path.insert(0, os.path.join(ROOT, 'tests', 'reference'))
 import board as B
+from making import image_of, spoilt, whole_words, with_word
 
 LISTER = os.path.join(ROOT, 'target', 'bin', 'lister')
 VALGRIND = ['valgrind', '-q', '--error-exitcode=99', '--exit-on-first-error=yes']
@@ -49,15 +49,12 @@ def fuzzed(folder):
 
 
 def with_words(rnd, image):
-    """Some words made others: a pointer, a root, a word from elsewhere, a size, any bits."""
-    words = list(struct.unpack('<%dQ' % (len(image) // 8), image[:len(image) // 8 * 8]))
+    """Some words made others."""
+    words = whole_words(image)
     for _ in range(rnd.randrange(1, 4) if words else 0):
         at = rnd.randrange(len(words))
-        block = rnd.randrange(len(words) // 8 + 2)
-        flipped = words[at] ^ 1 << rnd.randrange(64)
-        words[at] = rnd.choice([8 * block, 8 * block + rnd.randrange(8), flipped, rnd.choice(words),
-                                rnd.randrange(32770), rnd.getrandbits(64)])
-    return struct.pack('<%dQ' % len(words), *words) + image[len(words) * 8:]
+        words = with_word(words, at, spoilt(rnd, words, at, range(len(words) // 8 + 2)))
+    return image_of(words) + image[len(words) * 8:]
 
 
 def other_length(rnd, image):
@@ -66,7 +63,7 @@ def other_length(rnd, image):
     image = image[:length] + rnd.randbytes(max(0, length - len(image)))
     if length < 64 or rnd.random() < 0.3:
         return image
-    return image[:-64] + struct.pack('<8Q', 9, 512, length // 64, 1, 0, 0, 0, 0)
+    return image[:-64] + image_of([9, 512, length // 64, 1, 0, 0, 0, 0])
 
 
 def changed(rnd, image):

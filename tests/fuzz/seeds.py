@@ -11,8 +11,7 @@ import sys
 
 ROOT = os.path.dirname(os.path.dirname(os.path.dirname(os.path.abspath(__file__))))
 sys.path.insert(0, os.path.join(ROOT, 'tests', 'reference'))
-import board as B
-from making import PLAN, accepted, formatted, image_of
+from making import formatted, image_of, with_lengths, with_writes
 
 SMALL = 4096
 GIVEN = 128
@@ -27,14 +26,10 @@ def empty(blocks):
 
 def shapes(blocks, unit):
     """Every height, holes on each level, sizes above the span, a file shortened to nothing."""
-    words = empty(blocks)
-    for file, length in [(0, 2), (1, unit), (2, 65), (3, 300), (4, 8 * unit), (30, 70), (31, 3)]:
-        words = accepted(words, B.write(words, file, 0, [(7 * i + file) % 256 for i in range(length)], PLAN))
-    for file, length in [(1, 32768), (2, 20), (5, 700), (6, 32768), (7, 5000), (8, 32768), (30, 0)]:
-        words = accepted(words, B.set_length(words, file, length, PLAN))
-    for file, offset in [(5, 600), (6, 20000), (7, 4999)]:
-        words = accepted(words, B.write(words, file, offset, [file], PLAN))
-    return words
+    written = [(0, 2), (1, unit), (2, 65), (3, 300), (4, 8 * unit), (30, 70), (31, 3)]
+    words = with_writes(empty(blocks), [(file, 0, [(7 * i + file) % 256 for i in range(length)]) for file, length in written])
+    words = with_lengths(words, [(1, 32768), (2, 20), (5, 700), (6, 32768), (7, 5000), (8, 32768), (30, 0)])
+    return with_writes(words, [(file, offset, [file]) for file, offset in [(5, 600), (6, 20000), (7, 4999)]])
 
 
 def images():

@@ -4,13 +4,15 @@ model made. On each accepted board the printed blocks add up."""
 import glob
 import os
 import subprocess
-
-from sums import adds_up
+import sys
 
 ROOT = os.path.dirname(os.path.dirname(os.path.dirname(os.path.abspath(__file__))))
+sys.path.insert(0, os.path.join(ROOT, 'tests', 'reference'))
+from making import E13
+from sums import adds_up
+
 EXAMPLES = os.path.join(ROOT, 'examples')
 LISTINGS = os.path.join(EXAMPLES, 'listings.txt')
-E13 = 'blocks 16 free 4\nfile 0 size 2 height 0 held 1\n'
 
 
 def list_board(*words):

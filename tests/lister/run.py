@@ -16,42 +16,31 @@ ROOT = os.path.dirname(os.path.dirname(os.path.dirname(os.path.abspath(__file__)
 sys.path.insert(0, os.path.join(ROOT, 'tests', 'reference'))
 import board as B
 import making
-from making import PLAN, image_of, performed
+from making import E13, PLAN, damaged, e2_board, image_of, performed, seed_and_count, some_bytes, with_lengths, with_word, with_writes
 from sums import adds_up
 
 LISTER = os.path.join(ROOT, 'target', 'bin', 'lister')
-E13 = 'blocks 16 free 4\nfile 0 size 2 height 0 held 1\n'
 
 
 # ---- Boards
 
 
+def random_words(rnd, count):
+    return [rnd.getrandbits(64) for _ in range(8 * count)]
+
+
 def formatted(rnd, count):
-    return making.formatted([rnd.getrandbits(64) for _ in range(8 * count)])
-
-
-def write(words, file, offset, new):
-    return performed(words, B.write(words, file, offset, new, PLAN))
-
-
-def set_length(words, file, length):
-    return performed(words, B.set_length(words, file, length, PLAN))
-
-
-def e13_board(rnd):
-    return write(formatted(rnd, 16), 0, 0, [65, 66])
+    return making.formatted(random_words(rnd, count))
 
 
 def many_shapes(rnd):
     """Every height, null roots of height 0 and 3, holes on each level, sizes above the span, a file shortened to nothing."""
     words = formatted(rnd, 1024)
-    for file, length in [(0, 1), (1, 64), (2, 65), (3, 512), (4, 513), (5, 4096), (6, 4097), (7, 20000), (30, 700), (31, 3)]:
-        words = write(words, file, 0, [rnd.randrange(256) for _ in range(length)])
-    for file, length in [(1, 32768), (3, 513), (4, 66), (5, 30000), (8, 1), (9, 32768), (30, 0)]:
-        words = set_length(words, file, length)
-    for file, length, offset in [(10, 32768, 20000), (11, 500, 450), (12, 4000, 700), (13, 32768, 32767)]:
-        words = write(set_length(words, file, length), file, offset, [7])
-    words = set_length(words, 14, 9000)
+    written = [(0, 1), (1, 64), (2, 65), (3, 512), (4, 513), (5, 4096), (6, 4097), (7, 20000), (30, 700), (31, 3)]
+    words = with_writes(words, [(file, 0, some_bytes(rnd, length)) for file, length in written])
+    words = with_lengths(words, [(1, 32768), (3, 513), (4, 66), (5, 30000), (8, 1), (9, 32768), (30, 0)])
+    words = with_lengths(words, [(10, 32768), (11, 500), (12, 4000), (13, 32768), (14, 9000)])
+    words = with_writes(words, [(10, 20000, [7]), (11, 450, [7]), (12, 700, [7]), (13, 32767, [7])])
     words = performed(words, B.write(words, 14, 8999, [7], PLAN), pairs=1)  # growth of a null root, the power cut after it
     lines = B.listing(image_of(words))
     for want in ['file 0 size 1 height 0 held 1', 'file 1 size 32768 height 0 held 1', 'file 2 size 65 height 1 held 3', 'file 4 size 66 height 2 held 4',
@@ -62,31 +51,20 @@ def many_shapes(rnd):
     return words
 
 
-def some_board(rnd):
+def changed(rnd):
+    """A formatted board after some changes, as far as they are accepted."""
     words = formatted(rnd, rnd.choice([16, 16, 17, 20, 40, 100, 1024]))
     for _ in range(rnd.randrange(14)):
         file = rnd.choice([0, 0, 3, 4, 17, 30, 31])
         size = B.size(words, file)
         if rnd.random() < 0.6:
             offset = rnd.choice([0, size, rnd.randrange(size + 1)])
-            words = write(words, file, offset, [rnd.randrange(256) for _ in range(rnd.choice([1, 2, 9, 64, 70, 300, 600, 2000]))])
+            new = some_bytes(rnd, rnd.choice([1, 2, 9, 64, 70, 300, 600, 2000]))
+            words = performed(words, B.write(words, file, offset, new, PLAN))
         else:
-            words = set_length(words, file, rnd.choice([0, 1, size // 2, size + 1, size + 100, 600, 5000, 32768]))
+            length = rnd.choice([0, 1, size // 2, size + 1, size + 100, 600, 5000, 32768])
+            words = performed(words, B.set_length(words, file, length, PLAN))
     return words
-
-
-def with_word(words, at, value):
-    return words[:at] + [value] + words[at + 1:]
-
-
-def damaged(rnd, words):
-    """The board with one word made another, most often a word that decides something."""
-    survey = B.Survey(words)
-    places = [range(len(words) - 8, len(words)), range(8 * survey.pointer_block, 8 * survey.pointer_block + 8), list(survey.cells),
-              [survey.inode(file) + 1 for file in range(32)], range(len(words))]
-    at = rnd.choice(rnd.choice(places))
-    return with_word(words, at, rnd.choice([words[at] ^ 1 << rnd.randrange(64), words[at] ^ 1 << rnd.randrange(14), 8 * rnd.choice(list(survey.blocks)),
-                                            8 * rnd.randrange(survey.count + 2), 32768 + rnd.randrange(2), rnd.randrange(8), rnd.getrandbits(64)]))
 
 
 # ---- Inputs
@@ -94,7 +72,7 @@ def damaged(rnd, words):
 
 def inputs(rnd, count):
     """Each image with its name."""
-    e13, greatest = e13_board(rnd), image_of(formatted(rnd, 1024))
+    e13, greatest = e2_board(random_words(rnd, 16)), image_of(formatted(rnd, 1024))
     image = image_of(e13)
     yield 'formatted, 16 blocks', image_of(formatted(rnd, 16))
     yield 'formatted, 1,024 blocks', greatest
@@ -115,7 +93,7 @@ def inputs(rnd, count):
         for value in values:
             yield 'word %d = %d' % (at, value), image_of(with_word(e13, at, value))
     for number in range(count):
-        words = some_board(rnd)
+        words = changed(rnd)
         yield 'random board %d' % number, image_of(words)
         yield 'random board %d, damaged' % number, image_of(damaged(rnd, words))
 
@@ -159,11 +137,11 @@ def listed_in_pieces(name, image, wanted, ends):
 
 
 def main():
-    seed, count = (list(map(int, sys.argv[1:])) + [1, 200][len(sys.argv) - 1:])[:2]
+    seed, count = seed_and_count(200)
     rnd = random.Random(seed)
     if not os.path.exists(LISTER):
         sys.exit('lister: target/bin/lister is not built (rt check lister)')
-    image, greatest = image_of(e13_board(rnd)), image_of(many_shapes(rnd))
+    image, greatest = image_of(e2_board(random_words(rnd, 16))), image_of(many_shapes(rnd))
     listed("E13's board", image, E13)
     listed_in_pieces("E13's board in pieces", image, E13, [1, 8, 13, 700, 1023])
     listed_in_pieces('a board of 1,024 blocks in pieces', greatest, B.listing(greatest), [1, 4096, 65535])

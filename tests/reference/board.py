@@ -36,10 +36,6 @@ def words_of(image):
     return [word_of(image[i:i + 8]) for i in range(0, len(image), 8)]
 
 
-def image_of(board):
-    return [x for word in board for x in bytes_of(word)]
-
-
 # ---- Reading a board
 
 
@@ -192,12 +188,35 @@ def hidden(board, at, value):
     return at in survey.cells and not survey.cells[at][2]
 
 
+# ---- Reading an image
+
+
+def decoded(image):
+    if len(image) > 65536 or len(image) % 8:
+        raise Refused(1)
+    return words_of(image)
+
+
+def image_check(image):
+    return answer(lambda: check(decoded(image)))
+
+
+def image_size(image, file):
+    return answer(lambda: size(decoded(image), file))
+
+
+def image_read(image, file, offset, out):
+    """The answer and the buffer at exit."""
+    try:
+        return read(decoded(image), file, offset, out)
+    except Refused as refused:
+        return -refused.number, list(out)
+
+
 def listing(image):
     """What the lister prints."""
     try:
-        if len(image) > 65536 or len(image) % 8:
-            raise Refused(1)
-        survey = Survey(words_of(image))
+        survey = Survey(decoded(image))
     except Refused as refused:
         return 'refused %d\n' % refused.number
     lines = ['blocks %d free %d\n' % (survey.count, len(survey.free))]

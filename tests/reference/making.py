@@ -1,14 +1,42 @@
-"""What tests begin a board with: an inode pointer block and leaves in any blocks, a sound trailer, and rubbish everywhere else; or a
-formatted board, changed by the model's own calls. And a board's image."""
+"""What the tests in Python share, which hold something against the model (board.py): boards to test with, sound ones with rubbish
+wherever the document allows it, and damaged ones; numbers and bytes drawn at random; and how images and numbers are written as bytes."""
 import struct
+import sys
 
 import board as B
 
 PLAN = [0] * 12000  # room for every plan
+# Of files: at and around the spans and the bounds of words and blocks.
+SIZES = [0, 1, 7, 8, 63, 64, 65, 128, 130, 448, 500, 512, 513, 700, 4096, 4097, 4100, 9000, 32704, 32767, 32768]
+# What the lister prints on E2's board, by E13 with the column of N1.
+E13 = 'blocks 16 free 4\nfile 0 size 2 height 0 held 1\n'
+
+
+def seed_and_count(count):
+    """The words SEED and COUNT of the command line, or seed 1 and this count."""
+    given = list(map(int, sys.argv[1:3]))
+    return given + [1, count][len(given):]
+
+
+# ---- Bytes
 
 
 def image_of(words):
+    """Numbers of 64 bits as bytes, the lowest first: a board's image, or what a program is sent."""
     return struct.pack('<%dQ' % len(words), *words)
+
+
+def whole_words(image):
+    """The words of an image, as far as its bytes fill them."""
+    count = len(image) // 8
+    return list(struct.unpack('<%dQ' % count, image[:8 * count]))
+
+
+def some_bytes(rnd, count):
+    return [rnd.randrange(256) for _ in range(count)]
+
+
+# ---- Boards by the model's own calls
 
 
 def performed(words, planned, pairs=None):
@@ -27,16 +55,111 @@ def formatted(words):
     return accepted(words, B.format_board(words, PLAN))
 
 
+def with_writes(words, writes):
+    """The board after these writes, none of which may be refused: file, offset, bytes."""
+    for file, offset, new in writes:
+        words = accepted(words, B.write(words, file, offset, list(new), PLAN))
+    return words
+
+
+def with_lengths(words, lengths):
+    """The board after these length changes, none of which may be refused: file, length."""
+    for file, length in lengths:
+        words = accepted(words, B.set_length(words, file, length, PLAN))
+    return words
+
+
+def e2_board(words):
+    """E2's, over 128 words that may hold anything."""
+    return with_writes(formatted(words), [(0, 0, b'AB')])
+
+
+def offset_past(rnd, size):
+    """An offset past the end: nearby, where the next block or its node begins, or anywhere."""
+    return rnd.choice([size + 1, size + rnd.randrange(1, 9), size + rnd.randrange(1, 50), size // 64 * 64 + 64, size // 512 * 512 + 512,
+                       rnd.randrange(size + 1, 33000)])
+
+
+# ---- Laid boards
+
+
 def rubbish(rnd, count):
+    """Bits for a word that decides nothing on a board of count blocks."""
     return rnd.choice([rnd.getrandbits(64), 8 * rnd.randrange(1, count), rnd.randrange(8 * count + 40)])
 
 
-def begun(rnd, count):
-    """The words of a board of count blocks, the blocks that it does not use yet, and its leaves. The inodes are rubbish too."""
-    words = [rubbish(rnd, count) for _ in range(8 * count)]
-    pool = list(range(1, count - 1))
+def rubbish_words(rnd, count):
+    return [rubbish(rnd, count) for _ in range(8 * count)]
+
+
+def laid(rnd, count, files, exists, reserve=None):
+    """A sound board of count blocks in any order. `files` has the height and the size of some files, by number; the others are empty. A live
+    pointer over height h at byte x leads to a block where exists(h, x). With a reserve so many blocks stay free, and pointers are null when only
+    those are left; without it blocks that do not suffice are an IndexError. Every word that decides nothing is rubbish."""
+    words, pool = rubbish_words(rnd, count), list(range(1, count - 1))
     rnd.shuffle(pool)
     pointers, leaves = pool.pop(), [pool.pop() for _ in range(8)]
     words[8 * (count - 1):] = [8 * pointers + 1, 512, count, 1, 0, 0, 0, 0]
     words[8 * pointers:8 * pointers + 8] = [8 * leaf for leaf in leaves]
-    return words, pool, leaves
+
+    def tree(height, start, size):
+        if start >= size:
+            return rubbish(rnd, count)
+        if reserve is not None and len(pool) <= reserve or not exists(height, start):
+            return 0
+        block = pool.pop()
+        for j in range(8 if height else 0):
+            words[8 * block + j] = tree(height - 1, start + j * B.SPAN[height - 1], size)
+        return 8 * block
+
+    inodes = [8 * leaf + j for leaf in leaves for j in range(0, 8, 2)]
+    for at in inodes:
+        words[at + 1] = 0
+    for file, (height, size) in files.items():
+        at = inodes[file]
+        words[at + 1] = size
+        if size:
+            words[at] = tree(height, 0, size) + height
+    assert B.check(words) == 0
+    return words
+
+
+def some_board(rnd, count, files, holes, reserve=0):
+    """A sound board of count blocks with a tree of any height and size for each of these files; so great a share of the live pointers is null."""
+    shapes = {file: (rnd.randrange(4), rnd.choice(SIZES)) for file in files}
+    return laid(rnd, count, shapes, lambda h, start: rnd.random() >= holes, reserve)
+
+
+# ---- Damage
+
+
+def with_word(words, at, value):
+    return words[:at] + [value] + words[at + 1:]
+
+
+def spoilt(rnd, words, at, blocks):
+    """Another value for a word: a bit of it flipped, a pointer to one of these blocks or a root there, a word from elsewhere, a size, any bits."""
+    block = rnd.choice(blocks)
+    return rnd.choice([words[at] ^ 1 << rnd.randrange(64), words[at] ^ 1 << rnd.randrange(14), 8 * block, 8 * block + rnd.randrange(8), rnd.choice(words),
+                       8 * rnd.randrange(len(words) // 8 + 2), rnd.randrange(9), rnd.randrange(32770), 32768 + rnd.randrange(2), 2**63, rnd.getrandbits(64)])
+
+
+def places(words):
+    """The words that decide something, by what they are, and all words; of a board that is refused the trailer, the blocks that format fills, and all.
+    And the live blocks, of a refused board all."""
+    every, trailer = range(len(words)), range(len(words) - 8, len(words))
+    if B.check(words) != 0:
+        return [trailer, range(8, 80), every], range(len(words) // 8)
+    survey = B.Survey(words)
+    pointers = range(8 * survey.pointer_block, 8 * survey.pointer_block + 8)
+    leaves = [8 * leaf + j for leaf in survey.leaves for j in range(8)]
+    sizes = [survey.inode(file) + 1 for file in range(32)]
+    return [trailer, pointers, leaves, list(survey.cells), sizes, every], list(survey.blocks)
+
+
+def damaged(rnd, words, count=1):
+    """The board, of at least 80 words, with so many words made others, most often words that decide something."""
+    kinds, blocks = places(words)
+    for at in [rnd.choice(rnd.choice(kinds)) for _ in range(count)]:
+        words = with_word(words, at, spoilt(rnd, words, at, blocks))
+    return words

@@ -15,7 +15,7 @@ import sys
 import tempfile
 
 import board as B
-from making import begun, rubbish
+from making import E13, PLAN, SIZES, e2_board, image_of, laid, offset_past, seed_and_count, some_bytes, with_word
 
 ROOT = os.path.dirname(os.path.dirname(os.path.dirname(os.path.abspath(__file__))))
 # By number; 5 never occurs.
@@ -128,7 +128,7 @@ class Vectors:
         self.planned('write', words, 'write', [file, offset, new], max(0, room - 1) if short else room, B.write)
 
     def length(self, words, file, length):
-        room = 2 * max(0, B.set_length(words, file, length, [0] * 2000)[0])
+        room = 2 * max(0, B.set_length(words, file, length, PLAN)[0])
         self.planned('length', words, 'setLength', [file, length], room, B.set_length)
 
     def given(self, words, call, pairs):
@@ -145,7 +145,7 @@ class Vectors:
         self.given(words, 'writeGives house (lowest house BOARD) BOARD %d %d %s' % (file, offset, numbers(new)), B.plan_write(words, file, offset, new).pairs())
 
     def length_gives(self, words, file, length):
-        pairs, plan = B.set_length(words, file, length, [0] * 2000)
+        pairs, plan = B.set_length(words, file, length, PLAN)
         self.given(words, 'lengthGives house BOARD %d %d' % (file, length), list(zip(plan[:2 * pairs:2], plan[1:2 * pairs:2])))
 
     def format(self, words, room):
@@ -193,14 +193,12 @@ class Vectors:
                  % (len(plan), tall, file, offset, numbers(new), numbers(plan)))
 
     def image(self, image, file, offset, out):
-        words = B.words_of(image)
-        odd = len(image) % 8
-        got, buffer = (-1, out) if odd else B.read(words, file, offset, out)
+        got, buffer = B.image_read(image, file, offset, out)
         args = '%d %d %s' % (file, offset, numbers(out))
         self.add('image', image, 'sameInt (imageCheck house BOARD) %s && sameInt (imageSize house BOARD %d) %s && sameInt (imageRead house BOARD %s) %s'
                  ' && sameList (imageReadBuffer house BOARD %s) %s && sameList (listing house BOARD) %s'
-                 % (signed(-1 if odd else B.check(words)), file, signed(-1 if odd else B.size(words, file)), args, signed(got), args,
-                    numbers(buffer), numbers(list(B.listing(image).encode()))))
+                 % (signed(B.image_check(image)), file, signed(B.image_size(image, file)), args, signed(got), args, numbers(buffer),
+                    numbers(list(B.listing(image).encode()))))
 
 
 # ---- Boards
@@ -208,31 +206,14 @@ class Vectors:
 
 def made(rnd, count, file, height, size, exists):
     """A board with one file, whose live pointer over height h at byte x leads to a block where exists(h, x); rubbish elsewhere."""
-    words, pool, leaves = begun(rnd, count)
-    for f in range(32):
-        words[8 * leaves[f // 4] + 2 * (f % 4) + 1] = size if f == file else 0
-
-    def tree(h, start):
-        if start >= size:
-            return rubbish(rnd, count)
-        if not exists(h, start):
-            return 0
-        block = pool.pop()
-        for j in range(8 if h else 0):
-            words[8 * block + j] = tree(h - 1, start + j * B.SPAN[h - 1])
-        return 8 * block
-
-    if size:
-        words[8 * leaves[file // 4] + 2 * (file % 4)] = tree(height, 0) + height
-    assert B.check(words) == 0
-    return words
+    return laid(rnd, count, {file: (height, size)}, exists)
 
 
-def some_board(rnd):
-    """A board, with the file it holds."""
+def one_file(rnd):
+    """A board with a file, whose blocks are all there, or some, or those on the path to its last byte; and the file."""
     while True:
         count, file, height = rnd.choice([16, 18, 24, 40]), rnd.randrange(32), rnd.choice([0, 1, 1, 2, 2, 3])
-        size = rnd.choice([0, 1, 8, 63, 64, 65, 128, 130, 448, 500, 512, 513, 700, 4096, 4100, 32768])
+        size = rnd.choice(SIZES)
         holes = rnd.choice([0, 0, 0.3, 1])
         along = rnd.random() < 0.5
 
@@ -251,18 +232,13 @@ def offset_within(rnd, size):
     return rnd.choice([size, size, max(0, size - rnd.randrange(1, 70)), rnd.randrange(size + 1)])
 
 
-def offset_past(rnd, size):
-    """Past the end: nearby, where the next block or its node begins, or anywhere."""
-    return rnd.choice([size + 1, size + rnd.randrange(1, 50), size // 64 * 64 + 64, size // 512 * 512 + 512, rnd.randrange(size + 1, 33000)])
-
-
 def every_way(vectors, rnd, offset_of, wanted, tries):
     """One write for each way of planning that is met; the wanted ones must be."""
     ways = {}
     for _ in range(tries):
-        words, file = some_board(rnd)
+        words, file = one_file(rnd)
         offset = offset_of(rnd, B.size(words, file))
-        new = [rnd.randrange(256) for _ in range(rnd.choice([1, 2, 7, 8, 9, 60, 64, 65, 130, 450, 520]))]
+        new = some_bytes(rnd, rnd.choice([1, 2, 7, 8, 9, 60, 64, 65, 130, 450, 520]))
         try:
             plan = B.plan_write(words, file, offset, new)
         except B.Refused:
@@ -295,7 +271,7 @@ def past_the_end(vectors, rnd):
         def exists(h, start):
             return h >= low if h == height or start < size <= start + B.SPAN[h] else rnd.random() < 0.2
         file = rnd.randrange(32)
-        vectors.write(made(rnd, 40, file, height, size, exists), file, offset, [rnd.randrange(256) for _ in range(rnd.randrange(1, 20))])
+        vectors.write(made(rnd, 40, file, height, size, exists), file, offset, some_bytes(rnd, rnd.randrange(1, 20)))
 
 
 def other_lengths(vectors, rnd):
@@ -320,7 +296,7 @@ def each_damage(vectors, rnd):
     changes += [(root + 1, v) for v in (701, 32768, 32769, 2**64 - 1)] + [(root, v) for v in (words[root] + 2, 4, last + 2, twice + 2, 2)]
     changes += [(at, v) for at in live[:2] + live[-1:] for v in (words[at] + 1, words[at] + 4, last, twice, 0)] + [(dead[0], twice + 3)]
     for at, value in changes:
-        vectors.check(words[:at] + [value] + words[at + 1:])
+        vectors.check(with_word(words, at, value))
     for size in (32768, 32769):
         vectors.check(words[:root] + [3, size] + words[root + 2:])
 
@@ -328,10 +304,7 @@ def each_damage(vectors, rnd):
 def bench(vectors):
     """E10 and E12 on E2's board, writes of no bytes among them; past the end, a plan slice too short and, as in E9, all free blocks and one
     more; E13's image, whole and cut short."""
-    words = [7] * 128
-    for call in (lambda b: B.format_board(b, [0] * 166), lambda b: B.write(b, 0, 0, [65, 66], [0] * 22)):
-        pairs, plan = call(words)
-        words = B.perform(words, plan, pairs)[1]
+    words = e2_board([7] * 128)
     for offset, new in [(0, []), (2, []), (3, []), (32768, []), (32769, []), (2, [9]), (3, [9]), (32768, [9]), (2, [9] * 32767)]:
         vectors.write(words, 0, offset, new)
     vectors.write(words, 0, 3, [9], short=True)
@@ -339,9 +312,9 @@ def bench(vectors):
         vectors.write(words, 1, offset, new)
     for length in (32768, 32769):
         vectors.length(words, 0, length)
-    image = B.image_of(words)
-    assert B.listing(image) == 'blocks 16 free 4\nfile 0 size 2 height 0 held 1\n'
-    for part in (image, image[:-1], image[:960], image[:7], []):
+    image = image_of(words)
+    assert B.listing(image) == E13
+    for part in (image, image[:-1], image[:960], image[:7], b''):
         vectors.image(part, 0, 1, [9, 9, 9])
 
 
@@ -350,7 +323,7 @@ def each_height(vectors, rnd):
     for height, size, held, exists in [(0, 20, 1, lambda h, start: True), (1, 130, 4, lambda h, start: True),
                                        (2, 700, 5, lambda h, start: h > 0 or start in (0, 512)),
                                        (3, 4200, 4, lambda h, start: start <= 4199 < start + B.SPAN[h]), (3, 600, 0, lambda h, start: False)]:
-        image = B.image_of(made(rnd, 20, 9, height, size, exists))
+        image = image_of(made(rnd, 20, 9, height, size, exists))
         assert B.listing(image).endswith('file 9 size %d height %d held %d\n' % (size, height, held)), B.listing(image)
         vectors.image(image, 9, size - 2, [9, 9, 9])
 
@@ -364,14 +337,14 @@ def each_band(vectors, rnd):
     for height, size in [(0, 0), (0, 20)]:
         words = made(rnd, 24, 9, height, size, lambda h, start: True)
         for tall, least in [('sheetHeight', B.least), ('(λ e. least 8 3 e + 1)', lambda end, least=B.least: least(end) + 1)]:
-            vectors.write_by(words, 9, size, [rnd.randrange(256) for _ in range(100)], tall, least)
+            vectors.write_by(words, 9, size, some_bytes(rnd, 100), tall, least)
 
 
 def at_random(vectors, rnd, count):
     for _ in range(count):
-        words, file = some_board(rnd)
+        words, file = one_file(rnd)
         size = B.size(words, file)
-        new = [rnd.randrange(256) for _ in range(rnd.randrange(100))]
+        new = some_bytes(rnd, rnd.randrange(100))
         vectors.write(words, file, rnd.choice([size, size // 2, offset_past(rnd, size)]), new, short=rnd.random() < 0.3)
         vectors.write(words, rnd.choice([file, 31, 32, 2**64 - 1]), rnd.choice([size + 1, size, 0, 2**64 - 1]), new[:3])
         vectors.length(words, file, rnd.choice([0, 1, size, size + 1, size + 70, max(0, size - 1), 4097, 32768, 32769, 2**64 - 1]))
@@ -433,7 +406,7 @@ def prove(vectors, crates=2):
 
 
 def main():
-    seed, count = (list(map(int, sys.argv[1:])) + [1, 8][len(sys.argv) - 1:])[:2]
+    seed, count = seed_and_count(8)
     rnd = random.Random(seed)
     vectors = Vectors()
     ways = every_way(vectors, rnd, offset_within, WAYS, 4000) + every_way(vectors, rnd, offset_past, WAYS_PAST, 2000)
