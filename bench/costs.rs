@@ -7,9 +7,10 @@ mod cuts;
 mod journal;
 mod shadow;
 
-use board::{accepted, after, free, starting_board, write, Change, Epochs, BOARD, COINS, LOG, PICTURE, SCORES};
+use board::{accepted, after, change, free, starting_board, Change, BOARD, COINS, LOG, PICTURE, SCORES};
 use std::collections::BTreeSet;
 use support::random::Random;
+use support::stores::{arrive, Epochs};
 
 struct Method {
     name: &'static str,
@@ -57,8 +58,8 @@ fn own_plan(memory: &[u64], changes: &[Change]) -> Option<Epochs> {
     let end = changes.iter().map(|change| change.range().end).max()?;
     let bytes = files[file as usize][first as usize..end as usize].to_vec();
     let (mut by_library, mut by_stores) = (memory.to_vec(), memory.to_vec());
-    let epochs = write(&mut by_library, &Change { file, offset: first, bytes });
-    cuts::perform(&mut by_stores, &epochs.concat(), |_| true);
+    let epochs = change(&mut by_library, &Change { file, offset: first, bytes });
+    arrive(&mut by_stores, &epochs.concat(), |_| true);
     assert!(by_library == by_stores, "perform and the plan's stores leave other boards");
     Some(epochs)
 }
@@ -157,7 +158,7 @@ fn in_place_with_next(operation: &Operation, cuts: &mut u64) -> Cost {
     let (mut in_place, mut cost) = (Vec::new(), Cost::default());
     for changes in &operation.transactions {
         let mut seen = arrived.clone();
-        cuts::perform(&mut seen, &in_place, |_| true);
+        arrive(&mut seen, &in_place, |_| true);
         let before = accepted(&seen);
         let plan = journal::plan(&seen, changes).expect("a journal makes every change");
         let epochs = vec![[in_place, plan[0].clone()].concat(), plan[1].clone()];

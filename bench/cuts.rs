@@ -1,7 +1,8 @@
 //! Power cuts: what stands after any set of the stores of one epoch must read wholly as before or wholly as after.
 
-use crate::board::{read, Epochs, Files, Store};
+use crate::board::{read, Files};
 use support::random::Random;
+use support::stores::{all_but, all_sets, alone, arrive, none_and_all, Epochs};
 
 /// Up to so many stores in an epoch all sets are tried.
 const ALL: usize = 10;
@@ -15,7 +16,7 @@ pub fn tried(
     for (number, epoch) in epochs.iter().enumerate() {
         for set in sets(epoch.len()) {
             let mut cut = memory.to_vec();
-            perform(&mut cut, epoch, |i| set[i]);
+            arrive(&mut cut, epoch, |i| set[i]);
             recover(&mut cut);
             let found = read(&cut);
             if found.as_ref() != Some(before) && found.as_ref() != Some(after) {
@@ -23,7 +24,7 @@ pub fn tried(
             }
             cuts += 1;
         }
-        perform(memory, epoch, |_| true);
+        arrive(memory, epoch, |_| true);
     }
     Ok(cuts)
 }
@@ -39,24 +40,15 @@ pub fn performed(
     }
 }
 
-pub fn perform(memory: &mut [u64], stores: &[Store], chosen: impl Fn(usize) -> bool) {
-    for (i, &(at, value)) in stores.iter().enumerate() {
-        if chosen(i) {
-            memory[at as usize] = value;
-        }
-    }
-}
-
 /// All sets of so many stores; of many, none, all, each one, all but each one, and some at random.
 fn sets(count: usize) -> Vec<Vec<bool>> {
     if count <= ALL {
-        return (0..1usize << count).map(|set| (0..count).map(|i| set >> i & 1 == 1).collect()).collect();
+        return all_sets(count);
     }
     let mut random = Random::new(1, 0);
-    let mut sets = vec![vec![false; count], vec![true; count]];
+    let mut sets = none_and_all(count);
     for one in 0..count {
-        sets.push((0..count).map(|i| i == one).collect());
-        sets.push((0..count).map(|i| i != one).collect());
+        sets.extend([alone(count, one), all_but(count, one)]);
     }
     sets.extend((0..SOME).map(|_| (0..count).map(|_| random.one_in(2)).collect()));
     sets

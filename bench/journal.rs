@@ -5,9 +5,11 @@
 //! three epochs: entries and hidden stores; the commit word; the stores in place. The next one fills the other area,
 //! so the commit word is never cleared: until it changes, the last transaction can be replayed.
 
-use crate::board::{accepted, after, free, inode, word_of, Change, Epochs, Store, BOARD, SPAN};
+use crate::board::{accepted, after, free, inode, word_of, Change, BOARD};
 use std::collections::BTreeMap;
 use std::ops::Range;
+use support::boards::SPAN;
+use support::stores::{Epochs, Store};
 
 const COMMIT: usize = BOARD;
 const AREA: usize = 1000;

@@ -1,7 +1,7 @@
 //! The height that a write chooses, into an empty file or to grow, as N4 has it: "four bands, 0 to 64, 65 to 512, 513 to
 //! 4,096 and 4,097 to 32,768 bytes". It is looked for in each plan; and how often each end of a band was met.
 
-use crate::boards::{inode, SPAN};
+use crate::boards::{inode, root_and_size, SPAN};
 use crate::random::Random;
 
 /// The last size of each band and the first of the next. No write with a plan ends at 0.
@@ -33,8 +33,7 @@ fn height(end: u64) -> u64 {
 impl Bands {
     /// Of a write that ends at `end`, on the board that was lent. Where no height is chosen it counts nowhere.
     pub fn count(&mut self, board: &[u64], file: u64, end: u64, plan: &[u64]) {
-        let at = inode(board, file);
-        let (root, size) = (board[at], board[at + 1]);
+        let (at, (root, size)) = (inode(board, file), root_and_size(board, file));
         let met = match size {
             0 => &mut self.empty,
             _ if end > SPAN[(root % 8) as usize] => &mut self.grown,

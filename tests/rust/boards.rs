@@ -6,6 +6,11 @@ use crate::random::Random;
 pub const SPAN: [u64; 4] = [64, 512, 4096, 32768];
 pub const GREATEST: u64 = 32768;
 
+/// Room for every plan: none has more pairs than the board has words.
+pub fn room(board: &[u64]) -> usize {
+    2 * board.len()
+}
+
 /// As many blocks as a board may have, small boards more often.
 pub fn block_count(random: &mut Random) -> u64 {
     match random.below(20) {
@@ -131,10 +136,19 @@ pub fn formatted(random: &mut Random, blocks: u64) -> Vec<u64> {
 
 // ---- Walks
 
+fn inode_pointers(board: &[u64]) -> &[u64] {
+    let start = (board[board.len() - 8] / 8 * 8) as usize;
+    &board[start..start + 8]
+}
+
 /// The address of a file's root word on an accepted board; the size follows it.
 pub fn inode(board: &[u64], file: u64) -> usize {
-    let pointers = board[board.len() - 8] / 8;
-    (board[(8 * pointers + file / 4) as usize] / 8 * 8 + 2 * (file % 4)) as usize
+    (inode_pointers(board)[file as usize / 4] / 8 * 8 + 2 * (file % 4)) as usize
+}
+
+pub fn root_and_size(board: &[u64], file: u64) -> (u64, u64) {
+    let at = inode(board, file);
+    (board[at], board[at + 1])
 }
 
 /// The blocks on the path to a byte below the size, from the root's on, as far as they exist.
@@ -180,10 +194,9 @@ fn live_pointers(board: &[u64], height: u64, block: u64, below: u64, found: &mut
 fn all_live_pointers(board: &[u64]) -> Vec<usize> {
     let mut found = Vec::new();
     for file in 0..32 {
-        let at = inode(board, file);
-        let (root, size) = (board[at], board[at + 1]);
+        let (root, size) = root_and_size(board, file);
         if size > 0 {
-            found.push(at);
+            found.push(inode(board, file));
             live_pointers(board, root % 8, root / 8, size, &mut found);
         }
     }
@@ -193,6 +206,18 @@ fn all_live_pointers(board: &[u64]) -> Vec<usize> {
 /// The blocks that live roots and file pointers of an accepted board lead to, 0 for a null one.
 pub fn live_blocks(board: &[u64]) -> Vec<u64> {
     all_live_pointers(board).into_iter().map(|at| board[at] / 8).collect()
+}
+
+/// The free blocks of an accepted board, rising.
+pub fn free_blocks(board: &[u64]) -> Vec<u64> {
+    let blocks = board.len() / 8;
+    let mut used = vec![false; blocks];
+    let leaves = inode_pointers(board).iter().map(|pointer| pointer / 8);
+    let ends = [0, board[board.len() - 8] / 8, blocks as u64 - 1];
+    for block in leaves.chain(ends).chain(live_blocks(board)) {
+        used[block as usize] = true;
+    }
+    (0..blocks as u64).filter(|&block| !used[block as usize]).collect()
 }
 
 // ---- Damage

@@ -1,13 +1,14 @@
 //! Random writes and length changes: the library's plan, and before and after as plain arrays of bytes.
 
 use support::bands;
-use support::boards::{GREATEST, SPAN};
+use support::boards::{room, GREATEST, SPAN};
+use support::files::{contents, put};
 use support::library;
 use support::past_end;
 use support::random::Random;
 use support::ways::Ways;
 
-pub const FILES: usize = 32;
+pub const FILES: u64 = 32;
 
 enum Asked {
     /// Offset and bytes.
@@ -21,17 +22,6 @@ pub struct Change {
     pub before: Vec<Vec<u8>>,
     pub after: Vec<u8>,
     pub plan: Vec<u64>,
-}
-
-/// What each file of an accepted board reads as.
-pub fn contents(board: &[u64]) -> Vec<Vec<u8>> {
-    let mut out = vec![0; GREATEST as usize + 1];
-    let read = |file| {
-        let count = library::read(board, file as u64, 0, &mut out);
-        assert!(count >= 0, "read of file {file} is refused {}", -count);
-        out[..count as usize].to_vec()
-    };
-    (0..FILES).map(read).collect()
 }
 
 /// Where a write begins and how many bytes it has, small ones more often, past the end still more so; one in five ends
@@ -81,18 +71,14 @@ fn after(before: &[u8], asked: &Asked) -> Vec<u8> {
     let mut after = before.to_vec();
     match asked {
         Asked::Length(length) => after.resize(*length as usize, 0),
-        Asked::Write(offset, bytes) => {
-            let (start, end) = (*offset as usize, *offset as usize + bytes.len());
-            after.resize(before.len().max(end), 0);
-            after[start..end].copy_from_slice(bytes);
-        }
+        Asked::Write(offset, bytes) => put(&mut after, *offset, bytes),
     }
     after
 }
 
 /// The library's answer, and the pairs that it counts.
 fn planned(board: &[u64], file: u64, asked: &Asked, ways: &mut Ways) -> (i64, Vec<u64>) {
-    let mut plan = vec![0; 2 * board.len()];
+    let mut plan = vec![0; room(board)];
     let pairs = match asked {
         Asked::Length(length) => library::set_length(board, file, *length, &mut plan),
         Asked::Write(offset, bytes) => library::write(board, file, *offset, bytes, &mut plan),
@@ -107,7 +93,7 @@ fn planned(board: &[u64], file: u64, asked: &Asked, ways: &mut Ways) -> (i64, Ve
 
 /// A random write or length change that the library plans with at least one pair, or nothing.
 pub fn change(random: &mut Random, board: &[u64], ways: &mut Ways) -> Option<Change> {
-    let before = contents(board);
+    let before = contents(board, FILES);
     let most = random.pick(&[3, 3, 32]);
     let file = random.below(most) as usize;
     let asked = asked(random, before[file].len() as u64);

@@ -6,15 +6,16 @@
 
 mod changes;
 
-use changes::{change, contents, Change, FILES};
+use changes::{change, Change, FILES};
 use std::ops::AddAssign;
 use support::boards::{block_count, formatted, laid};
+use support::files::contents;
 use support::library;
+use support::performed;
 use support::random::Random;
 use support::rounds::Words;
+use support::stores::{self, all_but, all_sets, alone, arrive, epochs, none_and_all, Store, BARRIER};
 use support::ways::Ways;
-
-const BARRIER: u64 = u64::MAX;
 
 /// Epochs of more stores than this are cut at random sets, so many of them.
 const ALL_SETS: usize = 12;
@@ -45,8 +46,8 @@ fn fault(board: &[u64], change: &Change, last_arrived: bool) -> Option<String> {
     if checked != 0 {
         return Some(format!("the board is refused {}", -checked));
     }
-    let now = contents(board);
-    for file in 0..FILES {
+    let now = contents(board, FILES);
+    for file in 0..now.len() {
         let expected = if file == change.file && last_arrived { &change.after } else { &change.before[file] };
         if now[file] != *expected {
             let as_before = if now[file] == change.before[file] { "as before" } else { "not as before" };
@@ -56,30 +57,17 @@ fn fault(board: &[u64], change: &Change, last_arrived: bool) -> Option<String> {
     None
 }
 
-fn epochs(plan: &[u64]) -> Vec<&[u64]> {
-    let mut found = Vec::new();
-    let mut start = 0;
-    for at in (0..plan.len()).step_by(2) {
-        if plan[at] == BARRIER {
-            found.push(&plan[start..at]);
-            start = at + 2;
-        }
-    }
-    found.push(&plan[start..]);
-    found
-}
-
 /// The sets of n stores that may have arrived: all of them, or none, all, all but one, one alone, and any.
 fn sets(random: &mut Random, n: usize) -> Vec<Vec<bool>> {
     if n <= ALL_SETS {
-        return (0..1usize << n).map(|mask| (0..n).map(|i| mask >> i & 1 == 1).collect()).collect();
+        return all_sets(n);
     }
-    let mut found = vec![vec![false; n], vec![true; n]];
+    let mut found = none_and_all(n);
     while found.len() < RANDOM_SETS {
         let (one, most) = (random.below(n as u64) as usize, random.below(9));
         let set = match random.below(4) {
-            0 => (0..n).map(|i| i == one).collect(),
-            1 => (0..n).map(|i| i != one).collect(),
+            0 => alone(n, one),
+            1 => all_but(n, one),
             _ => (0..n).map(|_| random.below(8) < most).collect(),
         };
         found.push(set);
@@ -87,13 +75,9 @@ fn sets(random: &mut Random, n: usize) -> Vec<Vec<bool>> {
     found
 }
 
-fn stored(board: &[u64], epoch: &[u64], set: &[bool]) -> Vec<u64> {
+fn stored(board: &[u64], epoch: &[Store], set: &[bool]) -> Vec<u64> {
     let mut board = board.to_vec();
-    for (pair, &arrived) in epoch.chunks(2).zip(set) {
-        if arrived {
-            board[pair[0] as usize] = pair[1];
-        }
-    }
+    arrive(&mut board, epoch, |i| set[i]);
     board
 }
 
@@ -103,7 +87,7 @@ fn cut(random: &mut Random, board: &[u64], change: &Change) -> Result<Tally, Str
     let mut stands = board.to_vec();
     let epochs = epochs(&change.plan);
     for (at, epoch) in epochs.iter().enumerate() {
-        let n = epoch.len() / 2;
+        let n = epoch.len();
         for set in sets(random, n) {
             // Where before and after are the same, either may stand for the other.
             let last_arrived = at + 1 == epochs.len() && set[n - 1];
@@ -114,8 +98,7 @@ fn cut(random: &mut Random, board: &[u64], change: &Change) -> Result<Tally, Str
             tally.boards += 1;
             tally.read_as_after += u64::from(last_arrived);
         }
-        let performed = library::perform(&mut stands, epoch, n as u64);
-        assert!(performed == n as i64, "perform answers {performed}");
+        performed::whole(&mut stands, &stores::laid(epoch));
         tally.epochs += 1;
         tally.epochs_by_all_sets += u64::from(n <= ALL_SETS);
     }
@@ -130,7 +113,7 @@ fn format_cut(board: &[u64], left: &[u64], first_arrived: bool, last_arrived: bo
     if !last_arrived {
         return left[left.len() - 8] == 0 && library::check(left) == -2;
     }
-    library::check(left) == 0 && contents(left).iter().all(Vec::is_empty)
+    library::check(left) == 0 && contents(left, FILES).iter().all(Vec::is_empty)
 }
 
 // ---- Plans that must not pass
@@ -154,7 +137,7 @@ impl Spoilt {
 }
 
 fn without_barriers(plan: &[u64]) -> Vec<u64> {
-    plan.chunks(2).filter(|pair| pair[0] != BARRIER).flatten().copied().collect()
+    stores::laid(&epochs(plan).concat())
 }
 
 fn last_store_alone(plan: &[u64]) -> Vec<u64> {
@@ -203,14 +186,14 @@ impl Test {
         let mut stands = board.to_vec();
         let epochs = epochs(&plan);
         for (at, epoch) in epochs.iter().enumerate() {
-            for set in sets(&mut self.random, epoch.len() / 2) {
+            for set in sets(&mut self.random, epoch.len()) {
                 let left = stored(&stands, epoch, &set);
                 let first_arrived = at > 0 || set[0];
                 let last_arrived = at + 1 == epochs.len() && set[0];
                 assert!(format_cut(board, &left, first_arrived, last_arrived), "format cut in epoch {at}");
                 self.format_boards += 1;
             }
-            library::perform(&mut stands, epoch, epoch.len() as u64 / 2);
+            performed::whole(&mut stands, &stores::laid(epoch));
         }
         self.formats += 1;
     }

@@ -9,7 +9,7 @@ use calls::Calls;
 use std::io::Write;
 use std::process::{Command, Stdio};
 use support::bands;
-use support::boards::{block_count, damage, formatted, image_of, laid, unknown, GREATEST};
+use support::boards::{block_count, damage, formatted, image_of, laid, room, unknown, GREATEST};
 use support::library;
 use support::past_end;
 use support::random::Random;
@@ -94,11 +94,6 @@ fn file(random: &mut Random, few: &[u64; 3]) -> u64 {
         1..=5 => random.below(32),
         _ => random.pick(few),
     }
-}
-
-/// Room for every plan: none has more pairs than the board has words.
-fn room(board: &[u64]) -> usize {
-    2 * board.len()
 }
 
 /// A slice's length around twice the pairs, which are needed, or any below it.

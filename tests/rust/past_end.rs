@@ -1,8 +1,8 @@
 //! Writes past the end of a file, as N3 has them: offsets for them, how often each kind of them was met, and what they
 //! must leave of the tree. All of this is told from the lent board, the arguments and the plan.
 
-use crate::boards::{data_block, inode, live_blocks, path, SPAN};
-use crate::library;
+use crate::boards::{data_block, live_blocks, path, root_and_size, SPAN};
+use crate::performed;
 use crate::random::Random;
 
 /// An offset above the size: just past it, far past it, or around one of the next multiples of a span.
@@ -28,8 +28,7 @@ pub struct PastEnd<'a> {
 impl PastEnd<'_> {
     /// Nothing where the offset is not above the size.
     pub fn of(board: &[u64], file: u64, offset: u64, end: u64) -> Option<PastEnd<'_>> {
-        let at = inode(board, file);
-        let (root, size) = (board[at], board[at + 1]);
+        let (root, size) = root_and_size(board, file);
         (offset > size).then_some(PastEnd { board, file, offset, end, root, size })
     }
 
@@ -137,8 +136,7 @@ impl PastEnd<'_> {
     /// Performs the whole plan and looks at the tree.
     pub fn look(&self, plan: &[u64]) {
         let mut after = self.board.to_vec();
-        let pairs = plan.len() / 2;
-        assert!(library::perform(&mut after, plan, pairs as u64) == pairs as i64, "perform's answer");
+        performed::whole(&mut after, plan);
         let near_last = if self.into_empty() { Vec::new() } else { self.path_is_fresh(&after) };
         self.gap_is_null(&after, &near_last);
     }

@@ -2,7 +2,7 @@
 //! often each was met.
 
 use crate::bands::Bands;
-use crate::boards::{inode, SPAN};
+use crate::boards::{inode, root_and_size, SPAN};
 use crate::past_end::{Kinds, PastEnd};
 
 const WAYS: [&str; 7] = [
@@ -48,8 +48,7 @@ impl Ways {
             return;
         }
         assert!(offset < end, "a write of no bytes has a plan");
-        let at = inode(board, file);
-        let (root, size) = (board[at], board[at + 1]);
+        let (root, size) = root_and_size(board, file);
         let way = of_write(board, file, plan.len() / 2, plan[plan.len() - 2] as usize);
         self.met[way].0 += 1;
         if size > 0 && end > SPAN[(root % 8) as usize] {
@@ -66,7 +65,7 @@ impl Ways {
 
     pub fn set_length(&mut self, board: &[u64], file: u64, length: u64, plan: &[u64]) {
         if !plan.is_empty() {
-            let larger = length > board[inode(board, file) + 1];
+            let larger = length > root_and_size(board, file).1;
             let way = if !larger {
                 4
             } else if plan.len() > 2 {

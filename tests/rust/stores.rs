@@ -1,0 +1,45 @@
+//! A plan's stores by epochs, and the sets of them that a power cut may let arrive.
+
+pub const BARRIER: u64 = u64::MAX;
+
+/// Address and value.
+pub type Store = (u64, u64);
+/// The stores of each epoch. A barrier stands between any two epochs, and one after the last.
+pub type Epochs = Vec<Vec<Store>>;
+
+pub fn epochs(plan: &[u64]) -> Epochs {
+    let pairs: Vec<Store> = plan.chunks(2).map(|pair| (pair[0], pair[1])).collect();
+    pairs.split(|&(address, _)| address == BARRIER).map(<[Store]>::to_vec).collect()
+}
+
+/// The stores as a plan of one epoch.
+pub fn laid(stores: &[Store]) -> Vec<u64> {
+    stores.iter().flat_map(|&(address, value)| [address, value]).collect()
+}
+
+/// Performs the stores that arrive.
+pub fn arrive(board: &mut [u64], stores: &[Store], arrives: impl Fn(usize) -> bool) {
+    for (i, &(address, value)) in stores.iter().enumerate() {
+        if arrives(i) {
+            board[address as usize] = value;
+        }
+    }
+}
+
+// ---- Sets of n stores, those that have arrived
+
+pub fn all_sets(n: usize) -> Vec<Vec<bool>> {
+    (0..1usize << n).map(|mask| (0..n).map(|i| mask >> i & 1 == 1).collect()).collect()
+}
+
+pub fn none_and_all(n: usize) -> Vec<Vec<bool>> {
+    vec![vec![false; n], vec![true; n]]
+}
+
+pub fn alone(n: usize, one: usize) -> Vec<bool> {
+    (0..n).map(|i| i == one).collect()
+}
+
+pub fn all_but(n: usize, one: usize) -> Vec<bool> {
+    (0..n).map(|i| i != one).collect()
+}
