@@ -29,9 +29,13 @@ pub fn address(block: u64, index: u64) -> u64 {
     BLOCK_WORDS * block + index
 }
 
-/// Word `index` (0 to 7) of a block.
+/// Word `index` (0 to 7) of a block. "Block number 0 means null: a hole, all zeros", and "what it holds decides no
+/// answer", so its words aren't looked at. For any board: words off it are 0 too.
 pub fn word(board: &[u64], block: u64, index: u64) -> u64 {
-    board[address(block, index) as usize]
+    if block == 0 {
+        return 0;
+    }
+    board.get(address(block, index) as usize).copied().unwrap_or(0)
 }
 
 /// The eight words of a block.
@@ -83,9 +87,9 @@ pub fn trailer_fits(board: &[u64]) -> bool {
     trailer[0] % 8 == INODE_ROOT_LOW && in_range(board, trailer[0] / 8) && trailer[1..] == trailer_rest(board)
 }
 
-/// The inode pointer block, for any board whose trailer fits.
+/// The inode pointer block. For any board: of one block or none the trailer would be block 0, all zeros.
 fn inode_pointer_block(board: &[u64]) -> u64 {
-    word(board, block_count(board) - 1, 0) / 8
+    word(board, block_count(board).saturating_sub(1), 0) / 8
 }
 
 /// A file's root and size, and where they are stored.
@@ -120,7 +124,8 @@ impl Inode {
     }
 }
 
-/// "File f (0 to 31) is inode f mod 4 of leaf f / 4." For any board whose inode pointers are in range.
+/// "File f (0 to 31) is inode f mod 4 of leaf f / 4." For any board, whose root may have any height up to 7 and whose
+/// size may be any word; low bits of the inode root and of inode pointers aren't looked at.
 pub fn inode(board: &[u64], file: u64) -> Inode {
     let pointer_block = inode_pointer_block(board);
     let leaf = word(board, pointer_block, file / 4) / 8;
@@ -258,8 +263,8 @@ pub enum Place {
     Hole,
 }
 
-/// The walk to a byte of a file. "It starts at the root word; a byte past the span, or under a pointer that isn't
-/// live, is in a hole."
+/// The walk to a byte of a file, on any board. "It starts at the root word; a byte past the span, or under a pointer
+/// that isn't live, is in a hole." A block off the board ends it as any other, if it is reached at height 0.
 pub fn walk(board: &[u64], inode: Inode, byte: u64) -> Place {
     if inode.size == 0 || byte >= inode.tree().end() {
         return Place::Hole;

@@ -2,8 +2,8 @@
 //! may hold anything.
 
 use crate::board::{
-    block_count, byte_at, free_blocks, inode, live_blocks, trailer_fits, walk, word_count_fits, Inode, BLOCK_BYTES,
-    FILES, SIZE_LIMIT,
+    self, block_count, byte_at, free_blocks, inode, live_blocks, trailer_fits, word_count_fits, Inode, Place,
+    BLOCK_BYTES, FILES, SIZE_LIMIT,
 };
 use crate::plan::{self, Plan, BARRIER};
 
@@ -69,7 +69,7 @@ pub fn read(board: &[u64], file: u64, offset: u64, out: &mut [u8]) -> Result<u64
     while !rest.is_empty() {
         let in_block = (BLOCK_BYTES - position % BLOCK_BYTES).min(rest.len() as u64);
         let (piece, after) = rest.split_at_mut(in_block as usize);
-        let place = walk(board, inode, position);
+        let place = board::walk(board, inode, position);
         for (at, byte) in (position..).zip(piece) {
             *byte = byte_at(board, place, at);
         }
@@ -77,6 +77,16 @@ pub fn read(board: &[u64], file: u64, offset: u64, out: &mut [u8]) -> Result<u64
         rest = after;
     }
     Ok(count)
+}
+
+/// Where the walk to a byte of a file ends, on any board. It refuses nothing; there is no file above 31, so its bytes
+/// are in a hole.
+pub fn walk(board: &[u64], file: u64, byte: u64) -> Place {
+    if file < FILES {
+        board::walk(board, inode(board, file), byte)
+    } else {
+        Place::Hole
+    }
 }
 
 /// Plans a write of `bytes` at `offset` and answers the pair count. Refuses 1, 2, 3, 4, then 6: the end exceeds 32,768;

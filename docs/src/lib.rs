@@ -3,7 +3,8 @@
 //! sentences alone, so that another implementation can be compared with it. It is slow and plain on purpose: each call
 //! reads the lent board, makes its whole plan as a list of epochs, and only then tests the refusals that depend on it.
 //!
-//! Every public call gives `Ok(answer)` or `Err(refusal number)`. A refused call changes nothing that it was lent.
+//! Every public call gives `Ok(answer)` or `Err(refusal number)`, but the walk to a byte, which refuses nothing. A
+//! refused call changes nothing that it was lent.
 
 #![forbid(unsafe_code)]
 #![deny(missing_docs)]
@@ -13,6 +14,6 @@ mod calls;
 mod lister;
 mod plan;
 
-pub use board::{height_by_bands, least_height, BANDS};
-pub use calls::{check, format, free_count, perform, read, set_length, size, write};
+pub use board::{height_by_bands, least_height, Place, BANDS};
+pub use calls::{check, format, free_count, perform, read, set_length, size, walk, write};
 pub use lister::{image_check, image_read, image_size, listing, signed};

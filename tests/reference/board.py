@@ -171,8 +171,24 @@ def read(board, file, offset, out):
 
 
 def walk(board, file, i):
-    """The block where the walk to byte i ends, None in a hole."""
-    return Survey(board).data(file).get(i // 64 * 64)
+    """The block where the walk to byte i ends, None in a hole. On any board, which is not surveyed: of a null block, and of a block or a word off the
+    board, all words are 0, and so is the trailer of a board that has no block but block 0."""
+    def word(block, j):
+        at = 8 * block + j
+        return board[at] if block > 0 and at < len(board) else 0
+    if file > 31:
+        return None
+    leaf = word(word(len(board) // 8 - 1, 0) // 8, file // 4) // 8
+    root, below = word(leaf, file % 4 * 2), word(leaf, file % 4 * 2 + 1)
+    block, height = root // 8, root % 8
+    if i >= 64 * 8**height:
+        return None
+    # `below` counts the bytes of the span that lie below the size, none where the pointer is not live.
+    while block and below > 0 and height:
+        under = 8 * 8**height
+        block, below = word(block, i // under) // 8, below - i // under * under
+        i, height = i % under, height - 1
+    return block if block and below > 0 else None
 
 
 def hidden(board, at, value):

@@ -130,6 +130,11 @@ def some_board(rnd, count, files, holes, reserve=0):
     return laid(rnd, count, shapes, lambda h, start: rnd.random() >= holes, reserve)
 
 
+def hostile(rnd, length):
+    """So many words of which nothing is known."""
+    return [rubbish(rnd, length // 8 + 2) for _ in range(length)]
+
+
 # ---- Damage
 
 
@@ -163,3 +168,54 @@ def damaged(rnd, words, count=1):
     for at in [rnd.choice(rnd.choice(kinds)) for _ in range(count)]:
         words = with_word(words, at, spoilt(rnd, words, at, blocks))
     return words
+
+
+def null_inodes(rnd, words):
+    """The sound board with its inode root, or each second inode pointer, null; low bits are any."""
+    survey = B.Survey(words)
+    if rnd.random() < 0.4:
+        return with_word(words, len(words) - 8, rnd.randrange(8))
+    for at in rnd.sample(range(8 * survey.pointer_block, 8 * survey.pointer_block + 8), 4):
+        words = with_word(words, at, rnd.randrange(8))
+    return words
+
+
+# ---- Walks to a byte, which any board is lent to
+
+
+WALKS = ['to a block', 'to a hole', 'to a block of a refused board', 'to a block off the board', 'of a file above 31', 'on fewer than 16 words',
+         'by a null inode root', 'by a null inode pointer']
+
+
+def walk_kinds(words, file, block):
+    """Which of these a walk is that ends at the block, None for a hole."""
+    kinds = {'to a block' if block else 'to a hole'}
+    if block and B.check(words) != 0:
+        kinds.add('to a block of a refused board')
+    if block and 8 * block >= len(words):
+        kinds.add('to a block off the board')
+    if file > 31:
+        return kinds | {'of a file above 31'}
+    if len(words) < 16:
+        return kinds | {'on fewer than 16 words'}
+    pointers = words[len(words) // 8 * 8 - 8] // 8
+    at = 8 * pointers + file // 4
+    if pointers == 0:
+        kinds.add('by a null inode root')
+    elif at < len(words) and words[at] < 8:
+        kinds.add('by a null inode pointer')
+    return kinds
+
+
+def walked_board(rnd, words):
+    """A board for walks, most often none that is accepted, made from a sound one or of its length."""
+    return rnd.choice([lambda: words, lambda: damaged(rnd, words), lambda: damaged(rnd, words, 3), lambda: null_inodes(rnd, words),
+                       lambda: hostile(rnd, rnd.randrange(41)), lambda: hostile(rnd, len(words) + rnd.randrange(8))])()
+
+
+def walked_byte(rnd, words, files):
+    """A file, most often one of these, and a byte, on an accepted board more often below the size or next to it."""
+    file = rnd.choice([rnd.choice(files)] * 9 + [rnd.randrange(32)] * 2 + [31, 32, rnd.randrange(41), 2**32, 2**64 - 1])
+    size = B.size(words, file)
+    return file, rnd.choice([0, 63, 64, rnd.randrange(512), rnd.randrange(40000), rnd.choice(SIZES), rnd.randrange(max(size, 0) + 70), max(size, 1) - 1,
+                             max(size, 0), 2**27 - 1, 2**27, rnd.getrandbits(64), 2**64 - 1])

@@ -15,7 +15,7 @@ import sys
 import tempfile
 
 import board as B
-from making import E13, PLAN, SIZES, e2_board, image_of, laid, offset_past, seed_and_count, some_bytes, with_word
+from making import E13, PLAN, SIZES, WALKS, e2_board, image_of, laid, offset_past, seed_and_count, some_bytes, walk_kinds, walked_board, walked_byte, with_word
 
 ROOT = os.path.dirname(os.path.dirname(os.path.dirname(os.path.abspath(__file__))))
 # By number; 5 never occurs.
@@ -104,7 +104,7 @@ def signed(n):
 
 class Vectors:
     def __init__(self):
-        self.boards, self.all, self.kinds = {}, [], {}
+        self.boards, self.all, self.kinds, self.walks = {}, [], {}, set()
 
     def board(self, words):
         return self.boards.setdefault(tuple(words), 'b%d' % len(self.boards))
@@ -168,7 +168,10 @@ class Vectors:
                  % (args, answer(got), args, numbers(buffer)))
 
     def walk(self, words, file, i):
+        """On any board; on an accepted one the survey must find the same block."""
         block = B.walk(words, file, i)
+        assert B.check(words) != 0 or file > 31 or B.Survey(words).data(file).get(i // 64 * 64) == block
+        self.walks |= walk_kinds(words, file, block)
         self.add('walk', words, 'sameEnd (walkTo house BOARD %d %d) %s' % (file, i, '(Block %d)' % block if block else 'Hole'))
 
     def hidden(self, words, at, value):
@@ -340,6 +343,30 @@ def each_band(vectors, rnd):
             vectors.write_by(words, 9, size, some_bytes(rnd, 100), tall, least)
 
 
+def walks(vectors, rnd):
+    """Walks on a board with one word made another, cut short, and on boards of every kind, for files and bytes of any number."""
+    words = made(rnd, 24, 9, 2, 700, lambda h, start: h > 0 or start in (0, 512))
+    survey = B.Survey(words)
+    root, pointer, last = survey.inode(9), 8 * survey.pointer_block + 2, 8 * (survey.count - 1)
+    below = 8 * (words[root] // 8) + 1
+    for at, value, i in [(root, last, 5), (root, last + 8, 5), (root, 2**64 - 8, 63), (root, 2, 0), (root, words[root] + 5, 0), (root, words[root] + 5, 2**27),
+                         (root + 1, 0, 0), (root + 1, 512, 512), (root + 1, 2**64 - 1, 4095), (below, last + 8, 512), (below, 3, 512), (below, words[below] + 3, 520),
+                         (pointer, 0, 0), (pointer, 5, 0), (pointer, last + 8, 0), (pointer, words[pointer] + 3, 600), (last, 1, 0), (last, last + 9, 0),
+                         (last, words[last] + 6, 600), (last + 2, 7, 600)]:
+        vectors.walk(with_word(words, at, value), 9, i)
+    for length in (0, 1, 8, 15, 16, 24, 40, len(words) - 1):
+        vectors.walk(words[:length], 9, 0)
+    for file in (10, 32, 41, 2**64 - 1):
+        vectors.walk(words, file, 0)
+    for _ in range(30):
+        words, file = one_file(rnd)
+        words = walked_board(rnd, words)
+        for _ in range(2):
+            vectors.walk(words, *walked_byte(rnd, words, [file]))
+    for kind in WALKS:
+        assert kind in vectors.walks, 'no walk ' + kind
+
+
 def at_random(vectors, rnd, count):
     for _ in range(count):
         words, file = one_file(rnd)
@@ -418,6 +445,7 @@ def main():
     at_random(vectors, rnd, count)
     each_height(vectors, rnd)
     each_band(vectors, rnd)
+    walks(vectors, rnd)
     status, said = prove(vectors)
     failed = sorted({int(i) for i in re.findall(r'error: `v(\d+)`', said)})
     for i in failed:

@@ -34,16 +34,20 @@ struct Maker<'a> {
     empty: u64,
 }
 
+/// Bits for a word that decides nothing on a board of so many blocks: any, or a pointer that would do harm if it were
+/// followed.
+pub fn rubbish(random: &mut Random, blocks: u64) -> u64 {
+    match random.below(4) {
+        0 => random.word(),
+        1 => 8 * random.below(blocks + 2),
+        2 => 8 * random.below(blocks) + random.below(8),
+        _ => random.pick(&[0, 1, u64::MAX, 1 << 63]),
+    }
+}
+
 impl Maker<'_> {
-    /// Bits for a word that decides nothing: any, or a pointer that would do harm if it were followed.
     fn rubbish(&mut self) -> u64 {
-        let blocks = self.words.len() as u64 / 8;
-        match self.random.below(4) {
-            0 => self.random.word(),
-            1 => 8 * self.random.below(blocks + 2),
-            2 => 8 * self.random.below(blocks) + self.random.below(8),
-            _ => self.random.pick(&[0, 1, u64::MAX, 1 << 63]),
-        }
+        rubbish(self.random, self.words.len() as u64 / 8)
     }
 
     fn take(&mut self) -> u64 {
@@ -275,6 +279,25 @@ pub fn damage(random: &mut Random, board: &mut Vec<u64>) {
         2 => spoil_length(random, board),
         _ => spoil_pointer(random, board),
     }
+}
+
+/// Leaves the inode root or inode pointers of an accepted board null, with any low bits.
+pub fn null_inodes(random: &mut Random, board: &mut [u64]) {
+    let (trailer, pointers) = (board.len() - 8, (board[board.len() - 8] / 8 * 8) as usize);
+    if random.one_in(3) {
+        board[trailer] = random.below(8);
+        return;
+    }
+    for pointer in &mut board[pointers..pointers + 8] {
+        if random.one_in(2) {
+            *pointer = random.below(8);
+        }
+    }
+}
+
+/// So many words of which nothing is known.
+pub fn hostile(random: &mut Random, words: usize) -> Vec<u64> {
+    (0..words).map(|_| rubbish(random, words as u64 / 8 + 1)).collect()
 }
 
 /// A good trailer over words of which nothing else is known.

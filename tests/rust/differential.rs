@@ -4,6 +4,7 @@
 //!     differential SEED CALLS [ROUND]    rounds of the seed from ROUND on, until CALLS calls have been compared
 
 mod calls;
+mod walks;
 
 use calls::Calls;
 use std::io::Write;
@@ -15,6 +16,7 @@ use support::past_end;
 use support::random::Random;
 use support::rounds::Words;
 use support::ways::Ways;
+use walks::Walks;
 
 const BOUNDS: [u64; 8] = [0, 64, 512, 4096, 32768, 1 << 32, 1 << 63, u64::MAX];
 const FAR_FILES: [u64; 7] = [32, 33, 64, 256, 1 << 32, 1 << 63, u64::MAX];
@@ -323,10 +325,13 @@ fn main() {
     let random = Random::new(words.seed, u64::MAX);
     let mut test = Test { random, calls: Calls::default(), ways: Ways::default(), pool: Vec::new() };
     test.pool = test.random.bytes(40_000);
+    let mut walks = Walks::default();
     for round in words.rounds() {
         if test.calls.compared() >= words.wanted {
             break;
         }
+        // Walks have numbers of their own, so that the other calls are the same with and without them.
+        walks.round(&mut Random::new(words.seed, !round));
         test.random = Random::new(words.seed, round);
         if round < SWEEPS || round % SWEEP_EVERY == 0 {
             test.sweep();
@@ -339,9 +344,11 @@ fn main() {
     bands_are_spans();
     test.calls.report();
     test.ways.report();
+    walks.report();
     if words.wanted >= 100_000 {
         test.calls.all_met();
         test.ways.all_met();
+        walks.all_met();
     }
     println!("differential: {} calls, each as document 01 in plain Rust has it", test.calls.compared());
 }

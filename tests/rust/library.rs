@@ -11,6 +11,7 @@ extern "C" {
     fn montebeech_words_read(
         board: *const u64, board_len: usize, file: u64, offset: u64, out: *mut u8, out_len: usize,
     ) -> i64;
+    fn montebeech_words_walk(board: *const u64, board_len: usize, file: u64, byte: u64) -> i64;
     fn montebeech_words_write(
         board: *const u64, board_len: usize, file: u64, offset: u64, bytes: *const u8, bytes_len: usize,
         plan: *mut u64, plan_len: usize,
@@ -54,6 +55,10 @@ pub fn size(board: &[u64], file: u64) -> i64 {
 
 pub fn read(board: &[u64], file: u64, offset: u64, out: &mut [u8]) -> i64 {
     unsafe { montebeech_words_read(board.as_ptr(), board.len(), file, offset, out.as_mut_ptr(), out.len()) }
+}
+
+pub fn walk(board: &[u64], file: u64, byte: u64) -> i64 {
+    unsafe { montebeech_words_walk(board.as_ptr(), board.len(), file, byte) }
 }
 
 pub fn write(board: &[u64], file: u64, offset: u64, bytes: &[u8], plan: &mut [u64]) -> i64 {

@@ -2,6 +2,7 @@
 //! must leave of the tree. All of this is told from the lent board, the arguments and the plan.
 
 use crate::boards::{data_block, live_blocks, path, root_and_size, SPAN};
+use crate::kinds::Kinds;
 use crate::performed;
 use crate::random::Random;
 
@@ -104,29 +105,9 @@ const KINDS: [Kind; 16] = [
     }),
 ];
 
-/// How often each kind was met.
-#[derive(Default)]
-pub struct Kinds {
-    met: [u64; KINDS.len()],
-}
-
-impl Kinds {
-    pub fn count(&mut self, write: &PastEnd) {
-        for ((_, of_kind), met) in KINDS.iter().zip(&mut self.met) {
-            *met += u64::from(of_kind(write));
-        }
-    }
-
-    pub fn report(&self) {
-        for ((name, _), met) in KINDS.iter().zip(&self.met) {
-            println!("plans of writes past the end, {name}: {met}");
-        }
-    }
-
-    pub fn all_met(&self) {
-        for ((name, _), &met) in KINDS.iter().zip(&self.met) {
-            assert!(met > 0, "no plan of a write past the end, {name}");
-        }
+impl PastEnd<'_> {
+    pub fn count(&self, met: &mut Kinds) {
+        met.count(KINDS.map(|(name, of_kind)| (name, of_kind(self))));
     }
 }
 

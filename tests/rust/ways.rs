@@ -3,7 +3,8 @@
 
 use crate::bands::Bands;
 use crate::boards::{inode, root_and_size, SPAN};
-use crate::past_end::{Kinds, PastEnd};
+use crate::kinds::Kinds;
+use crate::past_end::PastEnd;
 
 const WAYS: [&str; 7] = [
     "single word",
@@ -59,7 +60,7 @@ impl Ways {
             let expected = if write.into_empty() { TAIL } else { SHADOW_WITH_LENGTH };
             assert!(way == expected, "a write past the end goes by {}, not by {}", WAYS[way], WAYS[expected]);
             write.look(plan);
-            self.past_end.count(&write);
+            write.count(&mut self.past_end);
         }
     }
 
@@ -83,7 +84,7 @@ impl Ways {
             println!("plans by {name}: {all}{growth}");
         }
         self.bands.report();
-        self.past_end.report();
+        self.past_end.report("plans of writes past the end,");
     }
 
     /// Every way must have been met, the three that can follow growth also after it, every end of a band, and every kind past
@@ -95,6 +96,6 @@ impl Ways {
         assert!(self.met[1..=3].iter().all(|&(_, grown)| grown > 0), "a way was not met after growth");
         assert!(self.met[0].1 == 0, "growth before a single word");
         self.bands.all_met();
-        self.past_end.all_met();
+        self.past_end.all_met("plan of a write past the end,");
     }
 }
