@@ -1,6 +1,6 @@
 /*
  * Tests of the calls on words as C makes them: the order of refusals where several apply, that a refusal changes nothing, plans at the
- * wall of their memory, a write past the end that is cut, and the stack. What plans hold is tested by words.py.
+ * wall of their memory, walks at it on any words, a write past the end that is cut, and the stack. What plans hold is tested by words.py.
  */
 #include "testing.h"
 
@@ -138,6 +138,7 @@ static void no_memory(void)
     answers("check", montebeech_words_check(NULL, 0), -1);
     answers("free count", montebeech_words_free_count(NULL, 0), -1);
     answers("size", montebeech_words_size(NULL, 0, 0), -1);
+    answers("walk", montebeech_words_walk(NULL, 0, 0, 0), 0);
     answers("read", montebeech_words_read(NULL, 0, 0, 0, NULL, 0), -1);
     answers("write", montebeech_words_write(NULL, 0, 0, 0, NULL, 0, NULL, 0), -1);
     answers("length change", montebeech_words_set_length(NULL, 0, 0, 0, NULL, 0), -1);
@@ -201,6 +202,20 @@ static void write_at_the_wall(size_t size, uint64_t offset, size_t len)
         printf("expected the bytes that were written, found others\n");
 }
 
+/* Walks on so many words, pointers on the board and past it among them. */
+static void walks_at_the_wall(size_t words)
+{
+    about("walks on %zu words, at the wall", words);
+    uint64_t *lent = (uint64_t *)(void *)(board_end - 8 * words);
+    for (size_t i = 0; i < words; i++)
+        lent[i] = random_word() % (words + 40);
+    for (uint64_t file = 0; file < 41; file++) {
+        int64_t end = montebeech_words_walk(lent, words, file, random_word() % 600);
+        if (fails(end == 0 || (end > 0 && file < 32 && words >= 16)))
+            printf("walk in file %" PRIu64 ": expected a hole or a block, found %" PRId64 "\n", file, end);
+    }
+}
+
 static void at_the_wall(void)
 {
     const size_t lengths[] = {1, 8, 9, 64, 65, 500, 4096, 20000};
@@ -212,6 +227,8 @@ static void at_the_wall(void)
         write_at_the_wall(0, 1000, lengths[i]); /* past the end of an empty file */
         write_at_the_wall(70, 1000, lengths[i]);
     }
+    for (size_t words = 0; words < 200; words++)
+        walks_at_the_wall(words);
 }
 
 /* ---- The coin log: an entry at a fixed place past the end, by one write. */
@@ -305,6 +322,9 @@ static void call_for_stack(void)
     case 11:
         montebeech_words_format(board, board_len, plan, MOST_PLAN);
         break;
+    case 12:
+        montebeech_words_walk(board, board_len, 0, 19000);
+        break;
     default:
         montebeech_words_perform(board, board_len, plan, MOST_PLAN, 83);
     }
@@ -317,7 +337,7 @@ static void stack_suffices(void)
     format(1024);
     write_bytes(0, 0, 20000);
     write_bytes(1, 0, 10);
-    for (which_call = 0; which_call < 13; which_call++) {
+    for (which_call = 0; which_call < 14; which_call++) {
         size_t used = stack_used(call_for_stack);
         most = used > most ? used : most;
         if (fails(used <= MONTEBEECH_WORDS_STACK_BYTES))

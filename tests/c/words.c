@@ -4,6 +4,7 @@
  *   B length words                            a board, for the calls that follow
  *   C, F                                      check, free count
  *   S file                                    size
+ *   T file byte                               the walk to a byte
  *   R file offset length fill                 read into a buffer of that length, each byte of which holds `fill`
  *   W file offset length bytes plan fill      write; the plan slice has that many words, each of which holds `fill`
  *   L file length plan fill                   length change
@@ -43,6 +44,12 @@ static uint64_t hash(const uint64_t *words, size_t length)
 static int64_t read_board(uint64_t file, uint64_t offset, uint8_t *out, size_t out_len)
 {
     return montebeech_words_read(board, board_len, file, offset, out, out_len);
+}
+
+static void walk_call(void)
+{
+    uint64_t file = get_number(), byte = get_number();
+    printf("walk %" PRId64 "\n", montebeech_words_walk(board, board_len, file, byte));
 }
 
 /* A call that plans; `letter` says which. */
@@ -98,6 +105,9 @@ int main(void)
         case 'S':
             printf("size %" PRId64 "\n", montebeech_words_size(board, board_len, get_number()));
             break;
+        case 'T':
+            walk_call();
+            break;
         case 'R':
             read_call(read_board);
             break;
@@ -110,7 +120,7 @@ int main(void)
             perform_call();
             break;
         default:
-            stop("a letter that is none of B, C, F, S, R, W, L, M, P");
+            stop("a letter that is none of B, C, F, S, T, R, W, L, M, P");
         }
     }
     free(board);

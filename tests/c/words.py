@@ -2,8 +2,8 @@
 """Holds the calls on words against board.py, the reference model.
 
 Each history begins with a board, formatted or made with rubbish wherever the document allows it, and goes on with writes, length changes and the
-performing of their plans; between them reads, and calls that are refused. target/c/words (words.c) makes the same calls. run.sh builds that program first.
-Every way of planning must have been gone at least once.
+performing of their plans; between them reads, walks to a byte, on boards that are none too, and calls that are refused. target/c/words (words.c) makes the
+same calls. run.sh builds that program first. Every way of planning must have been gone at least once, and every kind of walk.
 
     words.py [SEED [COUNT]]    COUNT histories (default: seed 1, 200 histories)
 """
@@ -13,7 +13,8 @@ import sys
 
 from sending import Calls
 import board as B
-from making import PLAN, SIZES, damaged, formatted, image_of, offset_past, rubbish_words, seed_and_count, some_board, some_bytes
+from making import PLAN, SIZES, WALKS, damaged, formatted, image_of, offset_past, rubbish_words, seed_and_count, some_board, some_bytes
+from making import walk_kinds, walked_board, walked_byte
 
 WALL = 2**64 - 1
 LENGTHS = [1, 1, 2, 3, 6, 8, 9, 24, 64, 65, 200, 512, 600, 4096, 5000]
@@ -43,8 +44,8 @@ def first_board(rnd):
 class History:
     """Calls on one board, as they are sent and with what the reference model answers."""
 
-    def __init__(self, rnd, number, calls, ways):
-        self.rnd, self.number, self.calls, self.ways = rnd, number, calls, ways
+    def __init__(self, rnd, number, calls, ways, walks):
+        self.rnd, self.number, self.calls, self.ways, self.walks = rnd, number, calls, ways, walks
         self.board = first_board(rnd)
         self.put_board()
 
@@ -60,6 +61,24 @@ class History:
         calls.size(file, size)
         offset, length, fill = rnd.randrange(max(size, 0) + 3), rnd.choice([0, 1, 9, 64, 700]), rnd.randrange(256)
         calls.read(file, offset, length, fill, lambda *asked: B.read(self.board, *asked))
+        self.walk()
+
+    def walk(self):
+        file, byte = walked_byte(self.rnd, self.board, range(6))
+        block = B.walk(self.board, file, byte)
+        self.walks |= walk_kinds(self.board, file, block)
+        self.calls.add(b'T' + image_of([file, byte]), 'walk to byte %d of file %d' % (byte, file), 'walk %d' % (block or 0))
+
+    def other_walks(self):
+        """Walks on a board of any kind; then the board as it was."""
+        kept = self.board
+        if B.check(kept) == 0:
+            self.board = walked_board(self.rnd, kept)
+            self.put_board()
+        for _ in range(6):
+            self.walk()
+        self.board = kept
+        self.put_board()
 
     def room(self, pairs):
         """A plan slice's length: near what is needed, or ample."""
@@ -127,7 +146,7 @@ class History:
 
     def run(self):
         for _ in range(self.rnd.randrange(8, 25)):
-            call = self.rnd.choice([self.write] * 8 + [self.set_length] * 3 + [self.reads, self.damage])
+            call = self.rnd.choice([self.write] * 8 + [self.set_length] * 3 + [self.reads, self.damage, self.other_walks])
             call()
         self.reads()
         if self.rnd.random() < 0.2:
@@ -137,14 +156,17 @@ class History:
 
 def main():
     seed, count = seed_and_count(200)
-    rnd, calls, ways = random.Random(seed), Calls(), []
+    rnd, calls, ways, walks = random.Random(seed), Calls(), [], set()
     for number in range(count):
-        History(rnd, number, calls, ways).run()
+        History(rnd, number, calls, ways, walks).run()
     same = calls.same('words', '%d histories with %d writes planned' % (count, len(ways)))
     missed = [way for way in WAYS if not any(re.fullmatch(way, met) for met in ways)]
     for way in missed:
         print('words: no write went the way %r' % way)
-    sys.exit(0 if same and not missed else 1)
+    unwalked = [kind for kind in WALKS if kind not in walks]
+    for kind in unwalked:
+        print('words: no walk ' + kind)
+    sys.exit(0 if same and not missed and not unwalked else 1)
 
 
 main()
