@@ -1,9 +1,9 @@
 //! The walk to a byte by the library beside the one of docs/src: on boards of every kind, damaged ones and words that are
 //! no board among them, for files and bytes of any number. It refuses nothing. What block 0 holds may change no walk.
 
-use crate::{offset, FAR_FILES};
+use crate::{offset, some_board, FAR_FILES};
 use document::Place;
-use support::boards::{block_count, damage, formatted, hostile, laid, null_inodes, rubbish, unknown, GREATEST};
+use support::boards::{block_count, hostile, laid, null_inodes, rubbish, GREATEST};
 use support::kinds::Kinds;
 use support::library;
 use support::random::Random;
@@ -48,22 +48,19 @@ impl Seen {
 
 // ---- Boards and arguments
 
-fn some_board(random: &mut Random) -> Vec<u64> {
-    let blocks = block_count(random);
-    let few = random.below(41);
-    let mut board = match random.below(8) {
-        0 => return hostile(random, few as usize),
-        1 => return hostile(random, 8 * blocks as usize + few as usize),
-        2 => return unknown(random, blocks),
-        3 => formatted(random, blocks),
-        _ => laid(random, blocks),
-    };
-    match random.below(3) {
-        0 => damage(random, &mut board),
-        1 => null_inodes(random, &mut board),
-        _ => {}
+/// Few words or many of which nothing is known, a board with null inodes, or one as the other calls get them.
+fn any_board(random: &mut Random) -> Vec<u64> {
+    let (few, blocks) = (random.below(41), block_count(random));
+    match random.below(8) {
+        0 => hostile(random, few as usize),
+        1 => hostile(random, (8 * blocks + few) as usize),
+        2 | 3 => {
+            let mut board = laid(random, blocks);
+            null_inodes(random, &mut board);
+            board
+        }
+        _ => some_board(random),
     }
-    board
 }
 
 /// Any file, or more often one that has a tree, if the board has such.
@@ -111,7 +108,7 @@ fn expected(board: &[u64], file: u64, byte: u64) -> i64 {
 impl Walks {
     /// Walks on one board.
     pub fn round(&mut self, random: &mut Random) {
-        let board = some_board(random);
+        let board = any_board(random);
         let other = other_block_0(random, &board);
         for _ in 0..WALKS {
             let file = file(random, &board);
