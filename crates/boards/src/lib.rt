@@ -17,7 +17,7 @@ ghost use Prim.Native.Nat.{_+_, _-_, _<_};
 ghost use lib.ListN.{getD};
 ghost use Rattle.model.specs.Layout.{layoutOf};
 ghost use Rattle.model.specs.Tree.{link};
-ghost use Rattle.model.specs.Board.{trailerWord, blockCount, trailer, inodePointer, rootAddress, root, size, linkedLeaf, linkedInode, wordCountSound, trailerSound};
+ghost use Rattle.model.specs.Board.{trailerWord, blockCount, trailer, inodePointer, rootAddress, root, size, linkedLeaf, linkedWord, wordCountSound, trailerSound};
 ghost use Rattle.boards.specs.Trailers.{trailerWordsSound};
 ghost use Rattle.boards.specs.Inodes.{AddressOf, InodeOf};
 
@@ -119,9 +119,9 @@ fn linked_leaf(kind: Kind, board: &[u64], f: u64) -> u64
 }
 
 // A word of a file's inode there: 0 the root, 1 the size.
-pub fn linked_inode(kind: Kind, board: &[u64], f: u64, j: u64) -> u64
+pub fn linked_word(kind: Kind, board: &[u64], f: u64, j: u64) -> u64
     requires { ⌜ j < 2 ⌝ }
-    ensures { λ r. ⌜ r ≡ linkedInode (layoutOf kind) (now (board .entry)) f j ⌝ }
+    ensures { λ r. ⌜ r ≡ linkedWord (layoutOf kind) (now (board .entry)) f j ⌝ }
 {
     let k = linked_leaf(kind, board, f);
     link(kind, board, k, 2 * inode_in(kind, f) + j)

@@ -15,7 +15,7 @@ use Rattle.model.specs.Lists.{tabulate, joined, every}
 use Rattle.model.specs.Words.{byteOf}
 use Rattle.model.specs.Layout.{Layout, files}
 use Rattle.model.specs.Tree.{ending, span, aligned, cell, link, walk, shown, blocks, sound}
-use Rattle.model.specs.Board.{rootWalk, rootBlocks, rootSound, greatest, blockCount, trailer, inodeBlock, inodePointer, leaf, rootAddress, sizeAddress, root, size, fileWalk, contents, linkedLeaf, linkedInode, walkTo, fileBlocks, fileSound}
+use Rattle.model.specs.Board.{rootWalk, rootBlocks, rootSound, greatest, blockCount, trailer, inodeBlock, inodePointer, leaf, rootAddress, sizeAddress, root, size, fileWalk, contents, linkedLeaf, linkedWord, walkTo, fileBlocks, fileSound}
 use Rattle.model.specs.Store.{Store, performed}
 use Rattle.model.proofs.Cases.{split, decide}
 use Rattle.model.proofs.Shown.{count-kept}
@@ -163,8 +163,8 @@ module _ (g : Layout) {b b′ : List ℕ} (same : Alike (g .words) b b′) where
   leaf-links-alike f = λ t.
       link-alike (g .words) same (link-alike (g .words) same (count-alike t - 1) 0 t / g .words) (f / g .inodes) t / g .words
 
-  inode-links-alike : (f j : ℕ) → linkedInode g b f j ≡ linkedInode g b′ f j
-  unfolding linkedInode
+  inode-links-alike : (f j : ℕ) → linkedWord g b f j ≡ linkedWord g b′ f j
+  unfolding linkedWord
   inode-links-alike f j = λ t. link-alike (g .words) same (leaf-links-alike f t) (2 * (f % g .inodes) + j) t
 
   pub walk-to-alike : (f i : ℕ) → walkTo g b f i ≡ walkTo g b′ f i

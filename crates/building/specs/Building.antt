@@ -8,6 +8,7 @@ use Rattle.model.specs.InPlace.{tailNeed, tailPages}
 use Rattle.plans.specs.declared.Grown.{Grown}
 use Rattle.plans.specs.Onto.{taking, onto}
 use Rattle.taking.specs.declared.Under.{Under}
+use Rattle.building.specs.declared.Tail.{Tail}
 
 -- whether the tree's own block is made fresh when `new` is written
 abbrev pub ownFresh : ℕ → Under → List ℕ → Bool
@@ -22,9 +23,12 @@ module _ (bits : ℕ) (board free : List ℕ) (grown : Grown) (u : Under) (new :
   abbrev pub freshPages : List Page
   freshPages = build (2 ^ bits) (taking free) (onto (2 ^ bits) free board grown) (u .tree .height) (u .tree .block) (u .tree .left) (u .offset) new (u .taken)
 
-  -- the same of the subtrees that are made fresh where `new` is written at the end
-  abbrev pub endCount : ℕ
-  endCount = tailNeed (2 ^ bits) (u .tree .height) (u .tree .left) (length new)
+-- ---- The subtrees that are made fresh where `new` is written at the end
 
-  abbrev pub endPages : List Page
-  endPages = tailPages (2 ^ bits) (onto (2 ^ bits) free board grown) (taking free) (u .tree .height) (u .tree .block) (u .tree .left) new (u .taken)
+-- how many blocks they have
+abbrev pub endCount : ℕ → Tail → List ℕ → ℕ
+endCount bits t new = tailNeed (2 ^ bits) (t .tree .height) (t .tree .left) (length new)
+
+-- and what these hold
+abbrev pub endPages : ℕ → List ℕ → List ℕ → Grown → Tail → List ℕ → List Page
+endPages bits board free grown t new = tailPages (2 ^ bits) (onto (2 ^ bits) free board grown) (taking free) (t .tree .height) (t .tree .block) (t .tree .left) new (t .taken)

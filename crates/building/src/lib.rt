@@ -124,8 +124,14 @@ pub fn build(
     build_fresh(bits, board, grown, free, plan, pages, under, new)
 }
 
+// Bytes written at the end of a tree, `taken` blocks being taken before.
+pub struct Tail {
+    pub tree: Tree,
+    pub taken: u64,
+}
+
 // Lays the fresh subtrees of a write at the end of a tree: those under pointers that aren't live and lead to written bytes. Answers how many blocks are
-// taken then. The offset is the end: what stands in `under.offset` is not read.
+// taken then.
 pub fn tail_pages(
     bits: u64,
     board: &[u64],
@@ -133,18 +139,18 @@ pub fn tail_pages(
     free: &[u64],
     plan: &mut [u64],
     pages: &mut [u64],
-    under: Under,
+    tail: Tail,
     new: &[u8],
 ) -> u64
-    requires { ⌜ Reach bits (under .tree .height) × Pointers bits (now free) grown × (2 ^ bits * under .tree .height ≤ length (now pages))
-        × (grown .base + 2 ^ bits * (under .taken + endCount bits (now board) (now free) grown under (now new)) ≤ 2 ^ 32) ⌝ }
-    ensures { λ r. ⌜ Took (2 ^ bits) (now (free .entry)) (now (plan .entry)) (grown .base) (under .taken)
-        (endPages bits (now (board .entry)) (now (free .entry)) grown under (now (new .entry))) (now (plan .exit)) r ⌝ }
+    requires { ⌜ Reach bits (tail .tree .height) × Pointers bits (now free) grown × (2 ^ bits * tail .tree .height ≤ length (now pages))
+        × (grown .base + 2 ^ bits * (tail .taken + endCount bits tail (now new)) ≤ 2 ^ 32) ⌝ }
+    ensures { λ r. ⌜ Took (2 ^ bits) (now (free .entry)) (now (plan .entry)) (grown .base) (tail .taken)
+        (endPages bits (now (board .entry)) (now (free .entry)) grown tail (now (new .entry))) (now (plan .exit)) r ⌝ }
 {
-    let h = under.tree.height;
-    let k = under.tree.block;
-    let n = under.tree.left;
-    let c = under.taken;
+    let h = tail.tree.height;
+    let k = tail.tree.block;
+    let n = tail.tree.left;
+    let c = tail.taken;
     if n == 0 {
         let fresh = Under {
             tree: Tree {
@@ -176,9 +182,8 @@ pub fn tail_pages(
                 block: block,
                 left: left,
             };
-            let below = Under {
+            let below = Tail {
                 tree: child,
-                offset: left,
                 taken: taken,
             };
             taken = tail_pages(bits, board, grown, free, plan, pages, below, own);

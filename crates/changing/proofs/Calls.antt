@@ -22,11 +22,12 @@ use Rattle.model.proofs.Refusals.{first-refused, first-done, checked, check-acc
 use Rattle.plans.specs.Laying.{Laid, PlanResult, PlanLaid}
 use Rattle.plans.proofs.Laying.{laid-none}
 use Rattle.plans.proofs.Refusing.{turned, too-short, long-enough}
-use Rattle.reading.proofs.Answering.{file-there, file-found}
+use Rattle.surveying.proofs.FileNumbers.{file-there, file-found}
 use Rattle.kinds.proofs.Figures.{files-32}
 use Rattle.plans.specs.Onto.{taking}
 use Rattle.plans.specs.declared.Count.{Count}
-use Rattle.planning.specs.Asked.{File, Stocked}
+use Rattle.planning.specs.Asked.{File}
+use Rattle.changing.specs.Stock.{Stocked}
 
 -- ---- A plan is first worked out on an empty part of the slice, which leaves the slice as it was
 

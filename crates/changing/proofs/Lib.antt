@@ -1,2 +1,3 @@
--- What the proofs of the calls use: their ways out.
+-- What the proofs of the calls use: the table of free blocks (Stock), and their ways out (Calls).
+pub mod Stock
 pub mod Calls

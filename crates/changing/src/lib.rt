@@ -8,7 +8,7 @@ use model::Kind;
 use planning::Request;
 use planning::plan_length;
 use planning::plan_write;
-use reading::check_file;
+use surveying::check_file;
 use surveying::list_free;
 use surveying::survey;
 ghost use Rattle.model.specs.Layout.{house, layoutOf};
@@ -16,7 +16,7 @@ ghost use Rattle.model.specs.Calls.{write, setLength};
 ghost use Rattle.kinds.specs.Figures.{Bits};
 ghost use Rattle.plans.specs.Laying.{PlanResult};
 ghost use Rattle.shadows.specs.Planning.{Pages};
-ghost use Rattle.planning.specs.Asked.{Stocked};
+ghost use Rattle.changing.specs.Stock.{Stocked};
 
 // Write, where no refusal up to 6 turns it away and there is a byte to write: `free` lists the free blocks, `count` of them.
 fn write_some(

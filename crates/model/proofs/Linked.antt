@@ -12,7 +12,7 @@ use borrow.Author.Tests.{lt-ltb}
 use Rattle.model.specs.declared.WalkEnd.the-variants.{Hole}
 use Rattle.model.specs.Layout.{Layout, Fits, files}
 use Rattle.model.specs.Tree.{cell, link}
-use Rattle.model.specs.Board.{rootWalk, blockCount, trailer, inodeBlock, inodePointer, leaf, rootAddress, sizeAddress, root, size, fileWalk, linkedLeaf, linkedInode, walkTo, accepted}
+use Rattle.model.specs.Board.{rootWalk, blockCount, trailer, inodeBlock, inodePointer, leaf, rootAddress, sizeAddress, root, size, fileWalk, linkedLeaf, linkedWord, walkTo, accepted}
 use Rattle.model.specs.Claims.{Shows}
 use Rattle.model.proofs.Agree.{link-cell}
 use Rattle.model.proofs.Shown.{Same, words-pos, leaf-of, same-accepted, same-check, same-live, same-free, same-walk, same-contents}
@@ -32,8 +32,8 @@ module _ {g : Layout} {b : List ℕ} {f : ℕ} (on : FileOn g b f) where
       let first : link W b (blockCount g b - 1) 0 ≡ cell W b (blockCount g b - 1) 0 = link-cell W pos b (blockCount g b - 1) 0 (omega (arith, ok .sizes .blocks-least)) in
       rw first (ap (λ (x : ℕ). x / W) (link-cell W pos b (inodeBlock g b) (f / g .inodes) (ok .pointers .inode .0)))
 
-  linked-word : (j : ℕ) → linkedInode g b f j ≡ getD b (rootAddress g b f + j) 0
-  unfolding linkedInode rootAddress cell
+  linked-word : (j : ℕ) → linkedWord g b f j ≡ getD b (rootAddress g b f + j) 0
+  unfolding linkedWord rootAddress cell
   linked-word j =
       let k : ℕ = leaf g b (f / g .inodes) in
       let there : 0 < k = facts g (on .fit) b (on .board) .pointers .leaf-in (f / g .inodes) (leaf-of g (on .fit) f (on .file)) .0 in
@@ -43,7 +43,7 @@ module _ {g : Layout} {b : List ℕ} {f : ℕ} (on : FileOn g b f) where
   pub walk-to-file : (i : ℕ) → walkTo g b f i ≡ fileWalk g b f i
   unfolding walkTo fileWalk root size sizeAddress
   walk-to-file i =
-      let first : linkedInode g b f 0 ≡ getD b (rootAddress g b f) 0 = linked-word 0 ∙ ap (λ (x : ℕ). getD b x 0) (add-zero (rootAddress g b f)) in
+      let first : linkedWord g b f 0 ≡ getD b (rootAddress g b f) 0 = linked-word 0 ∙ ap (λ (x : ℕ). getD b x 0) (add-zero (rootAddress g b f)) in
       λ t. cond (lt-ltb f (files g) (on .file) t) (rootWalk W b (first t) (linked-word 1 t) i) Hole
 
 -- so boards on which all that is visible is the same show the same

@@ -101,12 +101,12 @@ module _ (g : Layout) (b : List ℕ) where
   linkedLeaf f = link (g .words) b (link (g .words) b (blockCount - 1) 0 / g .words) (f / g .inodes) / g .words
 
   -- then word j of its inode: 0 the root, 1 the size
-  unfoldable pub linkedInode : ℕ → ℕ → ℕ
-  linkedInode f j = link (g .words) b (linkedLeaf f) (2 * (f % g .inodes) + j)
+  unfoldable pub linkedWord : ℕ → ℕ → ℕ
+  linkedWord f j = link (g .words) b (linkedLeaf f) (2 * (f % g .inodes) + j)
 
   -- and the walk; a file that there is not is a hole
   unfoldable pub walkTo : ℕ → ℕ → WalkEnd
-  walkTo f i = cond (ltb f (files g)) (rootWalk (g .words) b (linkedInode f 0) (linkedInode f 1) i) Hole
+  walkTo f i = cond (ltb f (files g)) (rootWalk (g .words) b (linkedWord f 0) (linkedWord f 1) i) Hole
 
   -- the blocks of a file that are *reached by live pointers only*
   unfoldable pub fileBlocks : ℕ → List ℕ

@@ -13,7 +13,6 @@ ghost use lib.Dec.{ltb};
 ghost use Rattle.model.specs.Lists.{all};
 ghost use Rattle.model.specs.Layout.{house, layoutOf};
 ghost use Rattle.model.specs.Store.{isBarrier, performed, stores, paired};
-ghost use Rattle.model.specs.Plan.{pairs};
 ghost use Rattle.performing.specs.Results.{PerformResult};
 
 // Whether each of the first k addresses of a plan is on a board of so many words or a barrier's.

@@ -1,5 +1,4 @@
 -- What the functions that plan a write and a length change are asked on.
-use mathlib.Core.Path.{_≡_}
 use mathlib.Core.List.{List}
 use Prim.Native.Nat.{ℕ, _+_, _%_, _^_, _≤_, _<_}
 use lib.ListN.{length}
@@ -8,8 +7,7 @@ use Rattle.model.specs.declared.Inode.{Inode}
 use Rattle.model.specs.declared.Kind.{Kind}
 use Rattle.model.specs.Layout.{layoutOf}
 use Rattle.model.specs.Board.{greatest, free, accepted}
-use Rattle.model.specs.Calls.{lowest}
-use Rattle.plans.specs.Onto.{taking, Blocks}
+use Rattle.plans.specs.Onto.{Blocks}
 
 -- a file of an accepted board
 pub record File (kind : Kind) (b : List ℕ) (f : ℕ) : Type 0 where
@@ -31,9 +29,3 @@ pub record Asked (kind : Kind) (b : List ℕ) (f o : ℕ) (new table : List ℕ)
   pub some : 0 < length new
   pub end : o + length new ≤ greatest (layoutOf kind)
   pub blocks : Blocks table
-
--- the table lists the free blocks, and `count` is how many there are
-pub record Stocked (kind : Kind) (b : List ℕ) (f o : ℕ) (new table : List ℕ) (count : ℕ) : Type 0 where
-  pub asked : Asked kind b f o new table
-  pub lists : (i : ℕ) → taking table i ≡ lowest (layoutOf kind) b i
-  pub all : count ≡ length (free (layoutOf kind) b)

@@ -13,7 +13,7 @@ use Rattle.model.specs.declared.WalkEnd.the-variants.{Block}
 use Rattle.model.specs.Lists.{consIf, pickFrom, member}
 use Rattle.model.specs.Layout.{house, files}
 use Rattle.model.specs.Tree.{span, cell, link, walk}
-use Rattle.model.specs.Board.{rootWalk, greatest, blockCount, size, linkedLeaf, linkedInode, walkTo, liveBlocks, free}
+use Rattle.model.specs.Board.{rootWalk, greatest, blockCount, size, linkedLeaf, linkedWord, walkTo, liveBlocks, free}
 use Rattle.model.specs.Answers.{Faults, answered, counted}
 use Rattle.model.specs.Calls.{boardFaults, fileFaults, checkAnswer, freeCountAnswer, sizeAnswer, readCount, readAnswer}
 use Rattle.model.proofs.Cases.{split}
@@ -22,7 +22,7 @@ use Rattle.model.proofs.Accepting.{facts}
 use Rattle.model.proofs.Formatted.{house-fits}
 use Rattle.model.proofs.Refusals.{same-refused, same-done}
 use Rattle.reading.specs.Results.{ReadResult}
-use Rattle.reading.proofs.Answering.{file-found}
+use Rattle.surveying.proofs.FileNumbers.{file-found}
 
 pub counted-most : (fs : Faults) (n : ℕ) → counted (answered fs n) ≤ n
 unfolding answered counted
@@ -94,7 +94,7 @@ module _ (b : List ℕ) (words : (i : ℕ) → getD b i 0 < 2 ^ 64) where
   ]
 
   pub walk-small : (f i q : ℕ) → walkTo house b f i ≡ Block q → q < 2 ^ 63
-  unfolding walkTo linkedInode
+  unfolding walkTo linkedWord
   walk-small f i q e = elim (split (files house) f) [
     | inl none ↦ absurd (hole≢block q (rw (le-ltb f (files house) none) at e))
     | inr l ↦ omega (arith, root-walk-most _ _ i q (link-small (linkedLeaf house b f) (2 * (f % 4) + 0)) (rw (lt-ltb f (files house) l) at e))

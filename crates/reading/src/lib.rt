@@ -1,28 +1,19 @@
 // The calls that read a board: check, free count, size, read, and the walk to a byte. Each answers what the definition of its name answers, on all
 // inputs; a refusal leaves the caller's buffer as it was.
 use model::Answer;
-use model::Fault;
 use model::Kind;
 use model::WalkEnd;
+use surveying::check_file;
+use surveying::check_kind;
 use surveying::survey;
 use surveying::unmarked;
 use trees::root_walk;
 ghost use mathlib.Core.Path.{_≡_};
 ghost use Rattle.model.specs.Layout.{house, layoutOf};
 ghost use Rattle.model.specs.Board.{walkTo};
-ghost use Rattle.model.specs.Answers.{answered};
-ghost use Rattle.model.specs.Calls.{fileFaults, checkAnswer, freeCountAnswer, sizeAnswer};
+ghost use Rattle.model.specs.Calls.{checkAnswer, freeCountAnswer, sizeAnswer};
 ghost use Rattle.kinds.specs.Figures.{Bits};
 ghost use Rattle.reading.specs.Results.{ReadResult};
-
-// Check of a board of some kind.
-fn check_kind(kind: Kind, bits: u64, board: &[u64]) -> Answer
-    requires { ⌜ Bits kind bits ⌝ }
-    ensures { λ r. ⌜ r ≡ checkAnswer (layoutOf kind) (now (board .entry)) ⌝ }
-{
-    let mut marks = [0u64; 1024];
-    survey(kind, bits, board, &mut marks)
-}
 
 // Check: 0, or refused 1, 2, 3.
 pub fn check(board: &[u64]) -> Answer
@@ -50,21 +41,6 @@ pub fn free_count(board: &[u64]) -> Answer
     ensures { λ r. ⌜ r ≡ freeCountAnswer house (now (board .entry)) ⌝ }
 {
     free_count_kind(Kind::House, 3, board)
-}
-
-// Whether the board is accepted and has such a file: 0, or refused 1, 2, 3, 4.
-pub fn check_file(kind: Kind, bits: u64, board: &[u64], file: u64) -> Answer
-    requires { ⌜ Bits kind bits ⌝ }
-    ensures { λ r. ⌜ r ≡ answered (fileFaults (layoutOf kind) (now (board .entry)) file) 0 ⌝ }
-{
-    let found = check_kind(kind, bits, board);
-    let Answer::Done(_) = found else {
-        return found;
-    };
-    if 31 < file {
-        return Answer::Refused(Fault::FileNumber);
-    }
-    Answer::Done(0)
 }
 
 // Size of a file of a board of some kind.
@@ -116,7 +92,7 @@ pub fn walk_to(board: &[u64], file: u64, byte: u64) -> WalkEnd
     if 32 <= file {
         return WalkEnd::Hole;
     }
-    let root = boards::linked_inode(Kind::House, board, file, 0);
-    let n = boards::linked_inode(Kind::House, board, file, 1);
+    let root = boards::linked_word(Kind::House, board, file, 0);
+    let n = boards::linked_word(Kind::House, board, file, 1);
     root_walk(3, board, root, n, byte)
 }

@@ -1,12 +1,12 @@
 -- The free blocks listed at the front of a table.
 use mathlib.Core.Path.{_≡_, refl, sym, ap, _∙_}
+use mathlib.Core.Bool.{Bool, true, false}
 use mathlib.Core.List.{List, _∷_, _++_, append-nil}
 use Prim.Native.Nat.{ℕ, _+_, _-_, _≤_, _<_}
 use native.Mathlib.Omega.{arith}
 use native.Mathlib.Numerals.{add-one}
-use lib.ListN.{length, getD, take, drop, set, length-set, take-append-drop}
+use lib.ListN.{length, take, drop, set, length-set, take-append-drop}
 use lib.Seq.{length-take-le, take-suc-set, drop-set-lt, drop-drop, append-snoc}
-use borrow.Author.Tests.{eq-eqb, ne-eqb}
 use Rattle.model.specs.Lists.{consIf, pickFrom}
 use Rattle.surveying.specs.Survey.{spare, Listed}
 use Rattle.surveying.proofs.Reached.{pick-next, pick-none}
@@ -27,12 +27,12 @@ module _ {m : List ℕ} {top : ℕ} {table₀ : List ℕ} where
   pub start : ListedBelow m top table₀ 1 table₀ 0
   start = record { fewer = omega arith; within = omega arith; same = refl; front = refl; rest = refl }
 
-  module _ {k : ℕ} {table : List ℕ} {count w : ℕ} (s : ListedBelow m top table₀ k table count) (l : k < top) (ew : w ≡ getD m k 0) where
+  module _ {k : ℕ} {table : List ℕ} {count : ℕ} (s : ListedBelow m top table₀ k table count) (l : k < top) {r : Bool} (er : r ≡ spare m k) where
     -- a free block is listed
-    pub listed : top ≤ length table₀ → w ≡ 0 → {table′ : List ℕ} → table′ ≡ set table count k → ListedBelow m top table₀ (k + 1) table′ (count + 1)
+    pub listed : top ≤ length table₀ → r ≡ true → {table′ : List ℕ} → table′ ≡ set table count k → ListedBelow m top table₀ (k + 1) table′ (count + 1)
     unfolding consIf
     listed room e et =
-        let here : ahead m top k ≡ k ∷ ahead m top (k + 1) = pick-next k top (spare m) l ∙ rw (eq-eqb (getD m k 0) 0 (sym ew ∙ e)) in
+        let here : ahead m top k ≡ k ∷ ahead m top (k + 1) = pick-next k top (spare m) l ∙ rw (sym er ∙ e) in
         let on : count < length table = omega (arith, s .fewer, s .same) in
         record {
           fewer = omega (arith, s .fewer);
@@ -43,10 +43,10 @@ module _ {m : List ℕ} {top : ℕ} {table₀ : List ℕ} where
         }
 
     -- any other is passed over
-    pub passed : (w ≡ 0 → ⊥) → ListedBelow m top table₀ (k + 1) table count
+    pub passed : r ≡ false → ListedBelow m top table₀ (k + 1) table count
     unfolding consIf
-    passed f =
-        let here : ahead m top k ≡ ahead m top (k + 1) = pick-next k top (spare m) l ∙ rw (ne-eqb (getD m k 0) 0 (λ e. f (ew ∙ e))) in
+    passed e =
+        let here : ahead m top k ≡ ahead m top (k + 1) = pick-next k top (spare m) l ∙ rw (sym er ∙ e) in
         record { fewer = omega (arith, s .fewer); within = s .within; same = s .same; front = rw (← here) (s .front); rest = s .rest }
 
   -- in the end all are listed

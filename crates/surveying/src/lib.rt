@@ -28,6 +28,8 @@ ghost use Rattle.model.specs.Board.{leaf, fileBlocks, liveBlocks, leafSound, fi
 ghost use Rattle.trees.specs.Marks.{Marked};
 ghost use Rattle.kinds.specs.Figures.{Bits};
 ghost use Rattle.surveying.specs.Survey.{pointersSound, spare, Surveyed, Listed};
+ghost use Rattle.model.specs.Answers.{answered};
+ghost use Rattle.model.specs.Calls.{fileFaults, checkAnswer};
 
 // Marks leaf l; whether its pointer is as it must be and it was not marked before.
 fn leaf(kind: Kind, board: &[u64], marks: &mut [u64], l: u64) -> bool
@@ -129,19 +131,50 @@ pub fn survey(kind: Kind, bits: u64, board: &[u64], marks: &mut [u64]) -> Answer
     Answer::Done(0)
 }
 
+// Check of a board of some kind.
+pub fn check_kind(kind: Kind, bits: u64, board: &[u64]) -> Answer
+    requires { ⌜ Bits kind bits ⌝ }
+    ensures { λ r. ⌜ r ≡ checkAnswer (layoutOf kind) (now (board .entry)) ⌝ }
+{
+    let mut marks = [0u64; 1024];
+    survey(kind, bits, board, &mut marks)
+}
+
+// Whether the board is accepted and has such a file: 0, or refused 1, 2, 3, 4.
+pub fn check_file(kind: Kind, bits: u64, board: &[u64], file: u64) -> Answer
+    requires { ⌜ Bits kind bits ⌝ }
+    ensures { λ r. ⌜ r ≡ answered (fileFaults (layoutOf kind) (now (board .entry)) file) 0 ⌝ }
+{
+    let found = check_kind(kind, bits, board);
+    let Answer::Done(_) = found else {
+        return found;
+    };
+    if 31 < file {
+        return Answer::Refused(Fault::FileNumber);
+    }
+    Answer::Done(0)
+}
+
+// Whether block k is not marked.
+fn spare(marks: &[u64], k: u64) -> bool
+    ensures { λ r. ⌜ r ≡ spare (now (marks .entry)) k ⌝ }
+{
+    word(marks, k) == 0
+}
+
 // How many of the blocks 1 to top - 1 are not marked.
 pub fn unmarked(marks: &[u64], top: u64) -> u64
     ensures { λ r. ⌜ r ≡ length (pickFrom 1 (top - 1) (spare (now (marks .entry)))) ⌝ }
 {
-    let mut free = 0;
+    let mut count = 0;
     let mut k = 1;
     while k < top {
-        if word(marks, k) == 0 {
-            free += 1;
+        if spare(marks, k) {
+            count += 1;
         }
         k += 1;
     }
-    free
+    count
 }
 
 // Lists the blocks from 1 to top - 1 that are not marked, at the front of a table. Answers how many there are.
@@ -152,7 +185,7 @@ pub fn list_free(marks: &[u64], top: u64, table: &mut [u64]) -> u64
     let mut count = 0;
     let mut k = 1;
     while k < top {
-        if word(marks, k) == 0 {
+        if spare(marks, k) {
             put(table, count, k);
             count += 1;
         }

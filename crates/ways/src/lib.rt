@@ -1,4 +1,5 @@
 // A single word, the tail way, and the choice among ways 4 to 6; `shadows` has the other two. The names of arguments are those of `taking`.
+use building::Tail;
 use building::build;
 use building::tail_pages;
 use kinds::height_in;
@@ -120,12 +121,11 @@ fn append(
         block: block_of(bits, root),
         left: s,
     };
-    let under = Under {
+    let tail = Tail {
         tree: tree,
-        offset: s,
         taken: c,
     };
-    let taken = tail_pages(bits, board, grown, free, plan, pages, under, new);
+    let taken = tail_pages(bits, board, grown, free, plan, pages, tail, new);
     let p = place(bits, grown.base, taken);
     let l = new.len() as u64;
     let end = End {

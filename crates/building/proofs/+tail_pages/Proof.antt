@@ -73,16 +73,16 @@ module _ (t : ℕ) where
     s .pre .1 .0,
     s .pre .1 .1,
     s .pre .1 .2,
-    rw (fresh-quiet (2 ^ a .bits) (onto (2 ^ a .bits) (a .free .now) (a .board .now) (a .grown)) (a .under .tree .height) 0 0 0 (length (a .new .now)) (inl refl), ← Tails.need-dead (2 ^ a .bits) (a .under .tree .height) (a .under .tree .left) (length (a .new .now)) (c .before .before .if1 .taken)) (s .pre .1 .3),
+    rw (fresh-quiet (2 ^ a .bits) (onto (2 ^ a .bits) (a .free .now) (a .board .now) (a .grown)) (a .tail .tree .height) 0 0 0 (length (a .new .now)) (inl refl), ← Tails.need-dead (2 ^ a .bits) (a .tail .tree .height) (a .tail .tree .left) (length (a .new .now)) (c .before .before .if1 .taken)) (s .pre .1 .3),
   )
 
   returns : N lts.Need-returns
   returns c = let u = c .before .before .before .before .before .before .before in let a = u .before .before .before .before .before .before .args in
-      TailPages.took-dead (2 ^ a .bits) (onto (2 ^ a .bits) (a .free .now) (a .board .now) (a .grown)) (a .free .now) (a .under .tree .height) (a .under .tree .block) (a .under .tree .left) (a .new .now) (u .if1 .taken) (c .before .before .before .before .build .ensures)
+      TailPages.took-dead (2 ^ a .bits) (onto (2 ^ a .bits) (a .free .now) (a .board .now) (a .grown)) (a .free .now) (a .tail .tree .height) (a .tail .tree .block) (a .tail .tree .left) (a .new .now) (u .if1 .taken) (c .before .before .before .before .build .ensures)
 
   returns-2 : N lts.Need-returns-2
   returns-2 c = let a = c .before .before .before .before .before .before .before .args in
-      TailPages.took-leaf (2 ^ a .bits) (onto (2 ^ a .bits) (a .free .now) (a .board .now) (a .grown)) (a .free .now) (a .under .tree .height) (a .under .tree .block) (a .under .tree .left) (a .new .now) (c .if2 .taken) (c .before .if1 .left)
+      TailPages.took-leaf (2 ^ a .bits) (onto (2 ^ a .bits) (a .free .now) (a .board .now) (a .grown)) (a .free .now) (a .tail .tree .height) (a .tail .tree .block) (a .tail .tree .left) (a .new .now) (c .if2 .taken) (c .before .if1 .left)
 
   span-requires : N lts.Need-span-requires
   span-requires c κs = lower (c .before .before .before .before .before .before .before .pre .1 .0)
@@ -100,8 +100,8 @@ module _ (t : ℕ) where
   tail-pages-requires c κs = let u = c .before .before .before .before .before .before in let l = u .before .before in let v = l .before .before .before in
       let s = v .before .before .before .before .before .before .before in let a = s .args in let W = 2 ^ a .bits in
       let fits = TailPages.pages-room (pow-pos (a .bits)) (l .loop .inv .2) (l .before .before .span .ensures .is) (u .part .ensures) (omega (arith, u .before .loop-test .taken, l .before .width .ensures .is)) (c .before .before .minus .ensures) in
-      let need = Tails.need-tree W (a .under .tree .height) (a .under .tree .left) (length (a .new .now)) (v .if2 .left) (v .before .if1 .left) in
-      let low : a .under .tree .height - 1 ≤ a .under .tree .height = omega arith in
+      let need = Tails.need-tree W (a .tail .tree .height) (a .tail .tree .left) (length (a .new .now)) (v .if2 .left) (v .before .if1 .left) in
+      let low : a .tail .tree .height - 1 ≤ a .tail .tree .height = omega arith in
       (omega (arith, s .pre .0), (lower (s .pre .1 .0), s .pre .1 .1, omega (arith, s .pre .1 .2, l .loop .inv .1, mul-le-mul-left W low), omega (arith, mul-le-mul-left W fits, rw need at (s .pre .1 .3))))
 
   loop-again : N lts.Need-loop-again
@@ -124,7 +124,7 @@ module _ (t : ℕ) where
 
   returns-3 : N lts.Need-returns-3
   returns-3 c = let l = c .before in let v = l .before .before .before in let a = v .before .before .before .before .before .before .before .args in
-      TailPages.took-tree (2 ^ a .bits) (onto (2 ^ a .bits) (a .free .now) (a .board .now) (a .grown)) (a .free .now) (a .under .tree .height) (a .under .tree .block) (a .under .tree .left) (a .new .now)
+      TailPages.took-tree (2 ^ a .bits) (onto (2 ^ a .bits) (a .free .now) (a .board .now) (a .grown)) (a .free .now) (a .tail .tree .height) (a .tail .tree .block) (a .tail .tree .left) (a .new .now)
       (v .if2 .left) (v .before .if1 .left) (omega (arith, l .before .width .ensures .is)) (l .loop .inv .2)
 
 pub +tail-pages-spec : {M : Type 1} → statement M

@@ -3,9 +3,9 @@ use native.Mathlib.Omega.{arith}
 use borrow.Author.Needs.{needs}
 use Rattle.model.specs.Layout.{layoutOf}
 use Rattle.kinds.proofs.Figures.{files-32}
-use Rattle.reading.proofs.Answering.{file-refused, file-none}
+use Rattle.surveying.proofs.FileNumbers.{file-refused, file-none}
 use Rattle.planning.specs.Asked.{File}
-use Rattle.planning.proofs.Listing as Listing
+use Rattle.changing.proofs.Stock as Stock
 use Rattle.changing.proofs.Calls as Calls
 use Rattle.changing.proofs.write_kind.Statement.{statement}
 use Rattle.changing.proofs.write_kind.Tie as tie
@@ -48,7 +48,7 @@ returns-5 c = let u = c .before .before in let t = u .before in let f = t .befor
 
 list-free-requires : tie.Need-list-free-requires
 list-free-requires c κs = let l = c .before in let f = there (l .before .before) in let v = surveyed f in
-    Listing.few (start v .args .kind) (v .survey .ensures) (f .before .enum-told .given .1) (l .last .ensures)
+    Stock.few (start v .args .kind) (v .survey .ensures) (f .before .enum-told .given .1) (l .last .ensures)
 
 write-some-requires : tie.Need-write-some-requires
 write-some-requires c κs =
@@ -60,7 +60,7 @@ write-some-requires c κs =
     let v = surveyed f in
     let s = start v in (
       s .pre,
-      Listing.stocked (s .args .kind) (v .survey .ensures) (f .before .enum-told .given .1) (l .last .ensures) (n .list-free .ensures) (file f) (omega (arith, w .if4 .left))
+      Stock.stocked (s .args .kind) (v .survey .ensures) (f .before .enum-told .given .1) (l .last .ensures) (n .list-free .ensures) (file f) (omega (arith, w .if4 .left))
           (omega (arith, u .before .top-size .ensures, u .if2 .left, w .before .if3 .left)),
     )
 

@@ -19,7 +19,7 @@ root-walk-requires c κs = house-reach _ (mod-lt _ (omega arith))
 returns-2 : tie.Need-returns-2
 unfolding walkTo files
 returns-2 c = let n = c .before in let r = n .before in let e = r .before in
-    c .root-walk .ensures ∙ rw (r .linked-inode .ensures, n .linked-inode2 .ensures, lt-ltb (e .before .before .args .file) 32 (omega (arith, e .if1 .left)))
+    c .root-walk .ensures ∙ rw (r .linked-word .ensures, n .linked-word2 .ensures, lt-ltb (e .before .before .args .file) 32 (omega (arith, e .if1 .left)))
 
 pub walk-to-spec : {M : Type 1} → statement M
 walk-to-spec = tie.close (tie.spec returns (λ c κs. search needs) (λ c κs. search needs) root-walk-requires returns-2)

@@ -17,8 +17,8 @@ loop-holds c = Listing.start
 loop-again : tie.Need-loop-again Inv-loop μ-loop
 loop-again c = let l = c .before .before .before in let t = c .before .before .loop-test .taken in
     ⊎-elim
-    (λ w. rw (w .5, w .6) (Listing.listed (l .loop .inv) t (c .before .word .ensures) (l .before .before .before .pre) (w .0 .taken) (w .2 .ensures)))
-    (λ w. rw (w .1, w .2) (Listing.passed (l .loop .inv) t (c .before .word .ensures) (w .0 .left)))
+    (λ w. rw (w .5, w .6) (Listing.listed (l .loop .inv) t (c .before .spare .ensures) (l .before .before .before .pre) (w .0 .taken) (w .2 .ensures)))
+    (λ w. rw (w .1, w .2) (Listing.passed (l .loop .inv) t (c .before .spare .ensures) (w .0 .left)))
     (c .if1 .came)
 
 same-length : tie.Need-same-length Inv-loop μ-loop

@@ -1,11 +1,11 @@
 use borrow.Author.Needs.{needs}
 use mathlib.Core.Path.{_≡_, sym, ap, _∙_}
 use mathlib.Core.Logic.{⊎-elim}
+use mathlib.Core.Bool.{Bool, true, false}
 use mathlib.Core.List.{List}
 use Prim.Native.Nat.{ℕ, _+_, _-_, _≤_, _<_}
 use native.Mathlib.Omega.{arith}
-use lib.ListN.{length, getD}
-use borrow.Author.Tests.{eq-eqb, ne-eqb}
+use lib.ListN.{length}
 use Rattle.model.specs.Lists.{consIf, pickFrom}
 use Rattle.surveying.specs.Survey.{spare}
 use Rattle.surveying.proofs.Reached.{pick-next, pick-none}
@@ -16,20 +16,20 @@ use Rattle.surveying.proofs.unmarked.Tie as tie
 abbrev ahead : List ℕ → ℕ → ℕ → ℕ
 ahead m top k = length (pickFrom k (top - k) (spare m))
 
-module _ (m : List ℕ) {top k w : ℕ} (l : k < top) (ew : w ≡ getD m k 0) where
-  free-one : w ≡ 0 → ahead m top k ≡ ahead m top (k + 1) + 1
+module _ (m : List ℕ) {top k : ℕ} (l : k < top) {r : Bool} (er : r ≡ spare m k) where
+  free-one : r ≡ true → ahead m top k ≡ ahead m top (k + 1) + 1
   unfolding consIf
-  free-one e = ap length (pick-next k top (spare m) l) ∙ rw (eq-eqb (getD m k 0) 0 (sym ew ∙ e)) (omega arith)
+  free-one e = ap length (pick-next k top (spare m) l) ∙ rw (sym er ∙ e) (omega arith)
 
-  used-one : (w ≡ 0 → ⊥) → ahead m top k ≡ ahead m top (k + 1)
+  used-one : r ≡ false → ahead m top k ≡ ahead m top (k + 1)
   unfolding consIf
-  used-one f = ap length (pick-next k top (spare m) l) ∙ rw (ne-eqb (getD m k 0) 0 (λ e. f (ew ∙ e)))
+  used-one e = ap length (pick-next k top (spare m) l) ∙ rw (sym er ∙ e)
 
 abbrev Inv-loop : tie.InvT-loop
-Inv-loop marks top free₀ k₀ free k = (1 ≤ k) × (free < k) × (free + ahead marks top k ≡ ahead marks top 1)
+Inv-loop marks top count₀ k₀ count k = (1 ≤ k) × (count < k) × (count + ahead marks top k ≡ ahead marks top 1)
 
 abbrev μ-loop : tie.MeasureT-loop
-μ-loop marks top free₀ k₀ free k = top - k
+μ-loop marks top count₀ k₀ count k = top - k
 
 loop-holds : tie.Need-loop-holds Inv-loop μ-loop
 loop-holds c = (omega arith, omega arith, omega arith)
@@ -37,8 +37,8 @@ loop-holds c = (omega arith, omega arith, omega arith)
 loop-again : tie.Need-loop-again Inv-loop μ-loop
 loop-again c = let l = c .before .before .before in let m = l .before .before .args .marks .now in let t = c .before .before .loop-test .taken in
     ⊎-elim
-    (λ w. rw (w .1) (omega arith, omega arith, omega (arith, free-one m t (c .before .word .ensures) (w .0 .taken), l .loop .inv .2)))
-    (λ w. rw (w .1) (omega arith, omega arith, omega (arith, used-one m t (c .before .word .ensures) (w .0 .left), l .loop .inv .2)))
+    (λ w. rw (w .1) (omega arith, omega arith, omega (arith, free-one m t (c .before .spare .ensures) (w .0 .taken), l .loop .inv .2)))
+    (λ w. rw (w .1) (omega arith, omega arith, omega (arith, used-one m t (c .before .spare .ensures) (w .0 .left), l .loop .inv .2)))
     (c .if1 .came)
 
 returns : tie.Need-returns Inv-loop μ-loop

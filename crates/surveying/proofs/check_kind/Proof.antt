@@ -1,6 +1,6 @@
 use borrow.Author.Needs.{needs}
-use Rattle.reading.proofs.check_kind.Statement.{statement}
-use Rattle.reading.proofs.check_kind.Tie as tie
+use Rattle.surveying.proofs.check_kind.Statement.{statement}
+use Rattle.surveying.proofs.check_kind.Tie as tie
 
 -- search finds this too; written out, another answer is refused by what it differs in
 returns : tie.Need-returns

@@ -21,7 +21,8 @@ use Rattle.surveying.specs.Survey.{spare, Surveyed, Listed}
 use Rattle.surveying.proofs.Surveying.{short, sound, free-spare}
 use Rattle.kinds.proofs.Figures.{words-pos, few-blocks as figure}
 use Rattle.plans.specs.Onto.{taking}
-use Rattle.planning.specs.Asked.{File, Stocked}
+use Rattle.planning.specs.Asked.{File}
+use Rattle.changing.specs.Stock.{Stocked}
 
 -- past a list's end zeros are as good as nothing
 then-zeros : (xs ys : List ℕ) (i : ℕ) → Zeros ys → getD (xs ++ ys) i 0 ≡ getD xs i 0

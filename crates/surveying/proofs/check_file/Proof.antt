@@ -2,9 +2,9 @@ use borrow.Author.Needs.{needs}
 use native.Mathlib.Omega.{arith}
 use Rattle.model.specs.Layout.{layoutOf}
 use Rattle.kinds.proofs.Figures.{files-32}
-use Rattle.reading.proofs.Answering.{file-refused, file-none, file-there}
-use Rattle.reading.proofs.check_file.Statement.{statement}
-use Rattle.reading.proofs.check_file.Tie as tie
+use Rattle.surveying.proofs.FileNumbers.{file-refused, file-none, file-there}
+use Rattle.surveying.proofs.check_file.Statement.{statement}
+use Rattle.surveying.proofs.check_file.Tie as tie
 
 returns : tie.Need-returns
 returns c =

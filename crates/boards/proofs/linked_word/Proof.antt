@@ -3,11 +3,11 @@ use mathlib.Core.Path.{_∙_}
 use Prim.Native.Nat.{_*_, _<_}
 use native.Mathlib.Omega.{arith}
 use Rattle.model.specs.Layout.{layoutOf}
-use Rattle.model.specs.Board.{linkedInode}
+use Rattle.model.specs.Board.{linkedWord}
 use Rattle.model.proofs.Shown.{slot}
 use Rattle.kinds.proofs.Figures.{fits, few-words}
-use Rattle.boards.proofs.linked_inode.Statement.{statement}
-use Rattle.boards.proofs.linked_inode.Tie as tie
+use Rattle.boards.proofs.linked_word.Statement.{statement}
+use Rattle.boards.proofs.linked_word.Tie as tie
 
 -- the place of an inode in its leaf
 place : (c : tie.After-inode-in) → 2 * c .inode-in .result < 512
@@ -21,8 +21,8 @@ add-link : tie.Need-add-link
 add-link c = omega (arith, place c)
 
 returns : tie.Need-returns
-unfolding linkedInode
+unfolding linkedWord
 returns c = let i = c .before in c .link .ensures ∙ rw (i .inode-in .ensures, i .before .linked-leaf .ensures)
 
-pub linked-inode-spec : {M : Type 1} → statement M
-linked-inode-spec = tie.close (tie.spec (λ c κs. search needs) (λ c κs. search needs) mul-link add-link (λ c κs. search needs) returns)
+pub linked-word-spec : {M : Type 1} → statement M
+linked-word-spec = tie.close (tie.spec (λ c κs. search needs) (λ c κs. search needs) mul-link add-link (λ c κs. search needs) returns)
