@@ -83,9 +83,9 @@ int64_t montebeech_words_read(const uint64_t *board, size_t board_len, uint64_t 
 
 /*
  * Answers the number of the data block in which a byte of a file lies, or 0 where the byte is in a hole. Block k is the
- * words 8 * k to 8 * k + 7 of the board. A byte past the size is in a block if that block's first byte lies below the
- * size. In a file above 31 every byte is in a hole. Refuses nothing and tests no board: on a board that
- * montebeech_words_check refuses, the number may be that of any block, even of one off the board.
+ * words 8 * k to 8 * k + 7 of the board. A byte at or past the size lies in a block where the file has one there and
+ * that block's first byte lies below the size. In a file above 31 every byte is in a hole. Refuses nothing and tests no
+ * board: on a board that montebeech_words_check refuses, the number may be that of any block, even of one off the board.
  */
 int64_t montebeech_words_walk(const uint64_t *board, size_t board_len, uint64_t file, uint64_t byte);
 

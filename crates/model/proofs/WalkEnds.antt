@@ -1,18 +1,19 @@
 -- Where the walk to a byte of a file ends: at the live data blocks of the file, at each of them, and at none twice.
 use mathlib.Core.Path.{_≡_, sym, ap, _∙_}
-use mathlib.Core.Logic.{inl, inr}
+use mathlib.Core.Logic.{_≢_, inl, inr}
+use mathlib.Core.Bool.{Bool, true, false, cond}
 use mathlib.Core.List.{List}
 use Prim.Native.Nat.{ℕ, zero, suc, _+_, _-_, _*_, _/_, _%_, _^_, _≤_, _<_}
 use native.Mathlib.Omega.{arith}
 use native.Mathlib.Nat.{mul-assoc, add-mul, div-eq-of-lt}
-use lib.Dec.{T}
+use lib.Dec.{T, ltb}
 use borrow.Author.Tests.{lt-ltb, le-ltb}
 use Rattle.model.specs.declared.WalkEnd.the-variants.{Block, Hole}
 use Rattle.model.specs.Lists.{sum, member, occ}
-use Rattle.model.specs.Layout.{Layout}
+use Rattle.model.specs.Layout.{Layout, files}
 use Rattle.model.specs.Tree.{ending, span, cell, link, walk, blocks, dataBlocks}
-use Rattle.model.specs.Board.{rootWalk, rootBlocks, rootHeight, rootBlock, size, fileWalk, walkTo, fileBlocks, fileData}
-use Rattle.model.specs.Claims.{Walked, WalkRule}
+use Rattle.model.specs.Board.{rootWalk, rootBlocks, rootHeight, rootBlock, size, fileWalk, linkedWord, walkTo, fileBlocks, fileData}
+use Rattle.model.specs.Claims.{Walked, WalkRule, NullRule}
 use Rattle.model.proofs.Cases.{split, decide}
 use Rattle.model.proofs.Sums.{sum-at, sum-two, sum-some}
 use Rattle.model.proofs.Counting.{one-some, occ-joined, member-occ}
@@ -20,7 +21,7 @@ use Rattle.model.proofs.Spans.{child, child-only, walk-child, span-pos}
 use Rattle.model.proofs.Trees.{childBlocks, walk-null, walk-dead}
 use Rattle.model.proofs.Walks.{span-blocks, block-by-child}
 use Rattle.model.proofs.Agree.{occ-children, occ-child}
-use Rattle.model.proofs.Descent.{hole≢block, walk-live, walk-inside}
+use Rattle.model.proofs.Descent.{hole≢block, ending-is, walk-live, walk-inside}
 use Rattle.model.proofs.Shown.{words-pos, file-live}
 use Rattle.model.proofs.Accepting.{FileOn, facts}
 use Rattle.model.proofs.Linked.{walk-to-file}
@@ -144,6 +145,32 @@ module _ {g : Layout} {b : List ℕ} {f : ℕ} (on : FileOn g b f) where
       | inr u ↦ tree-in i u ∙ walk-past W pos b h (rootBlock g b f) (size g b f) i u l
     ];
   }
+
+-- ---- Block 0, on any board
+
+module _ (W : ℕ) (b : List ℕ) where
+  walk-not-null : (h k n i : ℕ) → walk W b h k n i ≢ Block 0
+  unfolding walk ending
+  walk-not-null zero zero n i e = hole≢block 0 e
+  walk-not-null zero (suc k) zero i e = hole≢block 0 e
+  walk-not-null zero (suc k) (suc n) i e = let same = ending-is (suc k) (suc n) 0 e .1 in omega (arith, same)
+  walk-not-null (suc h) k n i e = walk-not-null h (link W b k (i / span W h) / W) (n - i / span W h * span W h) (i % span W h) e
+
+  root-not-null : (r n i : ℕ) → rootWalk W b r n i ≢ Block 0
+  unfolding rootWalk
+  root-not-null r n i e = by (ltb i (span W (r % W))) e
+    where
+      by : (t : Bool) → cond t (walk W b (r % W) (r / W) n i) Hole ≡ Block 0 → ⊥
+      by true e = walk-not-null (r % W) (r / W) n i e
+      by false e = hole≢block 0 e
+
+pub null-rule : NullRule
+unfolding walkTo
+null-rule g b f i e = by (ltb f (files g)) e
+  where
+    by : (t : Bool) → cond t (rootWalk (g .words) b (linkedWord g b f 0) (linkedWord g b f 1) i) Hole ≡ Block 0 → ⊥
+    by true e = root-not-null (g .words) b (linkedWord g b f 0) (linkedWord g b f 1) i e
+    by false e = hole≢block 0 e
 
 pub walk-rule : WalkRule
 walk-rule g fit b t f l = walked (record { fit = fit; board = t; file = l })

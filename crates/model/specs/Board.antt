@@ -104,7 +104,7 @@ module _ (g : Layout) (b : List ℕ) where
   unfoldable pub linkedWord : ℕ → ℕ → ℕ
   linkedWord f j = link (g .words) b (linkedLeaf f) (2 * (f % g .inodes) + j)
 
-  -- and the walk; a file that there is not is a hole
+  -- and the walk; a file number past the last is a hole
   unfoldable pub walkTo : ℕ → ℕ → WalkEnd
   walkTo f i = cond (ltb f (files g)) (rootWalk (g .words) b (linkedWord f 0) (linkedWord f 1) i) Hole
 

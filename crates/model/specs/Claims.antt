@@ -49,6 +49,10 @@ pub record Walked (g : Layout) (b : List ℕ) (f : ℕ) : Type 0 where
 abbrev pub WalkRule : Type 0
 WalkRule = (g : Layout) → Fits g → (b : List ℕ) → T (accepted g b) → (f : ℕ) → f < files g → Walked g b f
 
+-- on no board does a walk end at block 0, so that C can be told a hole by that number
+abbrev pub NullRule : Type 0
+NullRule = (g : Layout) (b : List ℕ) (f i : ℕ) → walkTo g b f i ≢ Block 0
+
 -- ---- Plans
 
 -- pair i is a barrier

@@ -29,7 +29,7 @@ unfoldable pub levelOf : (ℕ → ℕ) → ℕ → ℕ → ℕ
 levelOf fresh zero k = 0
 levelOf fresh (suc t) k = cond (eqb (fresh t) k) (suc t) (levelOf fresh t k)
 
--- no block and no word of a board
+-- no block and no word of a board, and no pairs before
 pub record NotGrown (g : Grown) : Type 0 where
   pub none : g .levels ≡ 0
   pub off : g .at ≡ 2 ^ 64 - 1

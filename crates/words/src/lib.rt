@@ -1,4 +1,5 @@
-// Words of a board and bytes of a word. Access is total, as the definitions' is: a word off the slice reads 0, a store off it does nothing.
+// Words of a board, bytes of a word, and words of bytes. A word is read and stored totally, as in the definitions: off the slice it reads 0, and a store
+// there does nothing.
 ghost use mathlib.Core.Path.{_≡_};
 ghost use mathlib.Core.List.{_++_};
 ghost use Prim.Native.Nat.{_+_, _-_, _*_, _/_, _%_, _^_, _≤_, _<_};
