@@ -1,78 +1,16 @@
 //! How long it takes to plan a write and to perform the plan, beside the same calls in plain Rust (docs/src/fast), on a
-//! board of 1,024 blocks. First both must leave the same plans and boards. Each figure is the median of rounds in which
-//! the two alternate.
+//! board of 1,024 blocks. That both leave the same plans and boards is tested apart (tests/rust/same_plans.rs). Each
+//! figure is the median of rounds in which the two alternate.
 
 use std::hint::black_box;
 use std::time::Instant;
 use support::boards::room;
-use support::library::{perform, set_length, size, write};
+use support::library::{perform, write};
 use support::performed::{self, done, formatted};
 use support::random::Random;
 
 const WORDS: usize = 8192;
 const ROUNDS: usize = 101;
-
-// ---- The same plans and boards
-
-/// How many writes are accepted, how many of those begin past the end, and how many are refused.
-#[derive(Default)]
-struct Met {
-    accepted: u32,
-    past: u32,
-    refused: u32,
-}
-
-/// A length change by the library alone, where it is accepted.
-fn change_length(random: &mut Random, board: &mut [u64], file: u64) {
-    let length = if random.one_in(3) { random.below(33000) } else { random.below(700) };
-    let mut plan = vec![0; room(board)];
-    let pairs = set_length(board, file, length, &mut plan);
-    if pairs >= 0 {
-        done(perform(board, &plan, pairs as u64));
-    }
-}
-
-/// A write by both versions.
-fn same_plan(random: &mut Random, board: &mut [u64], file: u64, bytes: &[u8], met: &mut Met) {
-    let size = done(size(board, file));
-    let far = random.pick(&[800, 33000]);
-    let offset = if random.one_in(4) { size + random.below(130) } else { random.below(far) };
-    let most = random.pick(&[9, 130, 1500, 33000]);
-    let (from, length) = (random.below(100) as usize, random.below(most).min(32900) as usize);
-    let room = if random.one_in(8) { random.below(200) as usize } else { room(board) };
-    let new = &bytes[from..from + length];
-    let mut plans = [vec![7; room], vec![7; room]];
-    let ours = write(board, file, offset, new, &mut plans[0]);
-    let plain = fast::write(board, file, offset, new, &mut plans[1]);
-    assert_eq!(ours, plain, "write of {length} bytes at {offset}");
-    assert!(plans[0] == plans[1], "the plans of a write of {length} bytes at {offset} differ");
-    if ours < 0 {
-        met.refused += 1;
-        return;
-    }
-    met.accepted += 1;
-    met.past += (length != 0 && offset > size) as u32;
-    let mut other = board.to_vec();
-    assert_eq!(perform(board, &plans[0], ours as u64), fast::perform(&mut other, &plans[0], ours as u64));
-    assert!(board == other, "the boards differ");
-}
-
-/// Random writes and length changes.
-fn same_plans(random: &mut Random) -> Met {
-    let (mut board, mut met) = (formatted(WORDS), Met::default());
-    let bytes = random.bytes(33000);
-    for _ in 0..20000 {
-        let file = random.below(5);
-        if random.one_in(4) {
-            change_length(random, &mut board, file);
-        } else {
-            same_plan(random, &mut board, file, &bytes, &mut met);
-        }
-    }
-    met
-}
-
-// ---- Time
 
 struct Job {
     name: &'static str,
@@ -141,12 +79,8 @@ fn medians(job: &Job) -> [f64; 4] {
 }
 
 fn main() {
-    let mut random = Random::new(1, 0);
-    let Met { accepted, past, refused } = same_plans(&mut random);
-    assert!(past >= 500, "only {past} writes accepted past the end");
-    println!("the same plans and boards: {accepted} writes accepted, {past} of them past the end, {refused} refused");
     println!("{:32}plan, ns     plain   ratio perform, ns     plain   ratio    both", "");
-    for job in jobs(&mut random) {
+    for job in jobs(&mut Random::new(1, 0)) {
         let [plan, plain, performs, plain_performs] = medians(&job);
         print!("{:<30}{plan:>10.0}{plain:>10.0}{:>8.2}", job.name, plan / plain);
         print!("{performs:>12.0}{plain_performs:>10.0}{:>8.2}", performs / plain_performs);

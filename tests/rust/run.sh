@@ -1,5 +1,6 @@
 #!/usr/bin/env bash
-# The built library against document 01 in plain Rust (docs/src), and power cuts on the plans that it leaves:
+# The built library against document 01 in plain Rust (docs/src), power cuts on the plans that it leaves, and the library
+# against the plain Rust that its speed is measured beside (docs/src/fast):
 #     run.sh [CALLS [BOARDS [SEED]]]    so many calls compared, so many boards after cuts; a soak is the same with more
 set -euo pipefail
 cd "$(dirname "$0")/../.."
@@ -14,9 +15,14 @@ rustc "${flags[@]}" --crate-type rlib --crate-name document docs/src/lib.rs
 rustc "${flags[@]}" --crate-type rlib -l static=cabinet -l static=hosts tests/rust/support.rs
 rustc "${flags[@]}" --extern document --extern support tests/rust/differential.rs
 rustc "${flags[@]}" --extern support tests/rust/cuts.rs
+rustc "${flags[@]}" --crate-type rlib --crate-name fast docs/src/fast/lib.rs
+rustc "${flags[@]}" --extern support --extern fast tests/rust/same_plans.rs
+# Not run here, but by bench/run.
+rustc "${flags[@]}" --extern support --extern fast bench/planning.rs
 
 target/rust/differential "$seed" "$calls"
 target/rust/cuts "$seed" "$boards"
+target/rust/same_plans "$seed" 15000
 
 # Some of the calls again, each read of the library's watched.
 valgrind -q --error-exitcode=1 target/rust/differential "$seed" 20000 1000 >target/rust/valgrind.log 2>&1 ||

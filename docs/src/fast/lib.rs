@@ -1,8 +1,8 @@
 //! Write and perform of document 01, with N3 and N4 of document 02, in plain Rust as one would write them without
 //! proofs: safe code that tests each index, goes through each tree with marks and takes no memory of its own. It is a
-//! crate of its own kind, made to be fast, so that the library's speed can be measured beside it (bench/planning.rs,
-//! which first holds its plans and boards against the library's). It is not the reference: that is the crate in the
-//! folder above, slow and plain, and the two share nothing.
+//! crate of its own kind, made to be fast, so that the library's speed can be measured beside it (bench/planning.rs);
+//! tests/rust/same_plans.rs holds its plans and boards against the library's. It is not the reference: that is the crate
+//! in the folder above, slow and plain, and the two share nothing.
 //!
 //! Answers are as C gets them, a refusal r as −r.
 
