@@ -13,6 +13,8 @@ use support::rounds::Words;
 const BOARD: usize = 8192;
 /// Writes and length changes of one history.
 const STEPS: usize = 20000;
+/// So many words, at least, stand past a plan that is lent.
+const PAST: usize = 64;
 
 /// How many writes are accepted, how many of those begin past the end, and how many are refused.
 #[derive(Default)]
@@ -45,11 +47,12 @@ fn same_plan(random: &mut Random, board: &mut [u64], file: u64, bytes: &[u8], me
     let offset = if random.one_in(4) { size + random.below(130) } else { random.below(far) };
     let most = random.pick(&[9, 130, 1500, 33000]);
     let (from, length) = (random.below(100) as usize, random.below(most).min(32900) as usize);
-    let room = if random.one_in(8) { random.below(200) as usize } else { room(board) };
+    let lent = if random.one_in(8) { random.below(200) as usize } else { room(board) };
     let new = &bytes[from..from + length];
-    let mut plans = [vec![7; room], vec![7; room]];
-    let ours = write(board, file, offset, new, &mut plans[0]);
-    let plain = fast::write(board, file, offset, new, &mut plans[1]);
+    // The front is lent; the words past it are compared too.
+    let mut plans = [(); 2].map(|_| vec![7; room(board) + PAST]);
+    let ours = write(board, file, offset, new, &mut plans[0][..lent]);
+    let plain = fast::write(board, file, offset, new, &mut plans[1][..lent]);
     assert_eq!(ours, plain, "write of {length} bytes at {offset}");
     assert!(plans[0] == plans[1], "the plans of a write of {length} bytes at {offset} differ");
     if ours < 0 {
