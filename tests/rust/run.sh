@@ -22,7 +22,7 @@ rustc "${flags[@]}" --extern support --extern fast bench/planning.rs
 
 target/rust/differential "$seed" "$calls"
 target/rust/cuts "$seed" "$boards"
-target/rust/same_plans "$seed" 15000
+target/rust/same_plans "$seed" 50000
 
 # Some of the calls again, each read of the library's watched.
 valgrind -q --error-exitcode=1 target/rust/differential "$seed" 20000 1000 >target/rust/valgrind.log 2>&1 ||
