@@ -2,7 +2,7 @@
 
 use crate::board::{read, Files};
 use support::random::Random;
-use support::stores::{all_but, all_sets, alone, arrive, none_and_all, Epochs};
+use support::stores::{all_but, alone, arrive, sets, Epochs};
 
 /// Up to so many stores in an epoch all sets are tried.
 const ALL: usize = 10;
@@ -14,7 +14,8 @@ pub fn tried(
 ) -> Result<u64, String> {
     let mut cuts = 0;
     for (number, epoch) in epochs.iter().enumerate() {
-        for set in sets(epoch.len()) {
+        let n = epoch.len();
+        for set in sets(n, ALL, || each_and_some(n)) {
             let mut cut = memory.to_vec();
             arrive(&mut cut, epoch, |i| set[i]);
             recover(&mut cut);
@@ -40,16 +41,9 @@ pub fn performed(
     }
 }
 
-/// All sets of so many stores; of many, none, all, each one, all but each one, and some at random.
-fn sets(count: usize) -> Vec<Vec<bool>> {
-    if count <= ALL {
-        return all_sets(count);
-    }
+/// Of many stores each one alone, all but each one, and some sets at random.
+fn each_and_some(n: usize) -> Vec<Vec<bool>> {
     let mut random = Random::new(1, 0);
-    let mut sets = none_and_all(count);
-    for one in 0..count {
-        sets.extend([alone(count, one), all_but(count, one)]);
-    }
-    sets.extend((0..SOME).map(|_| (0..count).map(|_| random.one_in(2)).collect()));
-    sets
+    let each = (0..n).flat_map(|one| [alone(n, one), all_but(n, one)]);
+    each.chain((0..SOME).map(|_| (0..n).map(|_| random.one_in(2)).collect())).collect()
 }

@@ -14,12 +14,12 @@ use support::library;
 use support::performed;
 use support::random::Random;
 use support::rounds::Words;
-use support::stores::{self, all_but, all_sets, alone, arrive, epochs, none_and_all, Store, BARRIER};
+use support::stores::{self, all_but, alone, arrive, epochs, sets, Store, BARRIER};
 use support::ways::Ways;
 
-/// Epochs of more stores than this are cut at random sets, so many of them.
+/// Epochs of more stores than this are cut at so many sets, most of them random.
 const ALL_SETS: usize = 12;
-const RANDOM_SETS: usize = 40;
+const TRIED_SETS: usize = 40;
 
 #[derive(Default)]
 struct Tally {
@@ -57,22 +57,19 @@ fn fault(board: &[u64], change: &Change, last_arrived: bool) -> Option<String> {
     None
 }
 
-/// The sets of n stores that may have arrived: all of them, or none, all, all but one, one alone, and any.
-fn sets(random: &mut Random, n: usize) -> Vec<Vec<bool>> {
-    if n <= ALL_SETS {
-        return all_sets(n);
+/// One of n stores alone, all but one, or any.
+fn random_set(random: &mut Random, n: usize) -> Vec<bool> {
+    let (one, most) = (random.below(n as u64) as usize, random.below(9));
+    match random.below(4) {
+        0 => alone(n, one),
+        1 => all_but(n, one),
+        _ => (0..n).map(|_| random.below(8) < most).collect(),
     }
-    let mut found = none_and_all(n);
-    while found.len() < RANDOM_SETS {
-        let (one, most) = (random.below(n as u64) as usize, random.below(9));
-        let set = match random.below(4) {
-            0 => alone(n, one),
-            1 => all_but(n, one),
-            _ => (0..n).map(|_| random.below(8) < most).collect(),
-        };
-        found.push(set);
-    }
-    found
+}
+
+/// The sets of n stores that are tried. None and all are two of those of many stores.
+fn tried_sets(random: &mut Random, n: usize) -> Vec<Vec<bool>> {
+    sets(n, ALL_SETS, || (2..TRIED_SETS).map(|_| random_set(random, n)).collect())
 }
 
 fn stored(board: &[u64], epoch: &[Store], set: &[bool]) -> Vec<u64> {
@@ -88,7 +85,7 @@ fn cut(random: &mut Random, board: &[u64], change: &Change) -> Result<Tally, Str
     let epochs = epochs(&change.plan);
     for (at, epoch) in epochs.iter().enumerate() {
         let n = epoch.len();
-        for set in sets(random, n) {
+        for set in tried_sets(random, n) {
             // Where before and after are the same, either may stand for the other.
             let last_arrived = at + 1 == epochs.len() && set[n - 1];
             if let Some(fault) = fault(&stored(&stands, epoch, &set), change, last_arrived) {
@@ -186,7 +183,7 @@ impl Test {
         let mut stands = board.to_vec();
         let epochs = epochs(&plan);
         for (at, epoch) in epochs.iter().enumerate() {
-            for set in sets(&mut self.random, epoch.len()) {
+            for set in tried_sets(&mut self.random, epoch.len()) {
                 let left = stored(&stands, epoch, &set);
                 let first_arrived = at > 0 || set[0];
                 let last_arrived = at + 1 == epochs.len() && set[0];

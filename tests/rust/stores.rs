@@ -28,12 +28,18 @@ pub fn arrive(board: &mut [u64], stores: &[Store], arrives: impl Fn(usize) -> bo
 
 // ---- Sets of n stores, those that have arrived
 
-pub fn all_sets(n: usize) -> Vec<Vec<bool>> {
-    (0..1usize << n).map(|mask| (0..n).map(|i| mask >> i & 1 == 1).collect()).collect()
+/// The sets to try: all of them where there are at most so many stores; of more, none, all and the others that are given.
+pub fn sets(n: usize, most: usize, others: impl FnOnce() -> Vec<Vec<bool>>) -> Vec<Vec<bool>> {
+    if n <= most {
+        return all_sets(n);
+    }
+    let mut sets = vec![vec![false; n], vec![true; n]];
+    sets.extend(others());
+    sets
 }
 
-pub fn none_and_all(n: usize) -> Vec<Vec<bool>> {
-    vec![vec![false; n], vec![true; n]]
+fn all_sets(n: usize) -> Vec<Vec<bool>> {
+    (0..1usize << n).map(|mask| (0..n).map(|i| mask >> i & 1 == 1).collect()).collect()
 }
 
 pub fn alone(n: usize, one: usize) -> Vec<bool> {
