@@ -43,7 +43,7 @@ fn epochs(memory: &[u64], changes: &[Change], move_blocks: bool) -> Epochs {
     for change in changes {
         transaction.write(change, &files[change.file as usize], move_blocks);
     }
-    transaction.laid()
+    transaction.into_epochs()
 }
 
 impl Transaction<'_> {
@@ -146,7 +146,7 @@ impl Transaction<'_> {
         }
     }
 
-    fn laid(self) -> Epochs {
+    fn into_epochs(self) -> Epochs {
         let commit = self.memory[COMMIT];
         let parity = 1 - commit % 2;
         let entries = entries(&self.visible);

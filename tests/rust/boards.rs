@@ -127,7 +127,7 @@ pub fn laid(random: &mut Random, blocks: u64) -> Vec<u64> {
 }
 
 /// A board of 32 empty files over rubbish, as format leaves it.
-pub fn formatted(random: &mut Random, blocks: u64) -> Vec<u64> {
+pub fn bare(random: &mut Random, blocks: u64) -> Vec<u64> {
     let mut words: Vec<u64> = (0..8 * blocks).map(|_| random.word()).collect();
     for j in 0..8 {
         words[8 + j] = 8 * (2 + j as u64);

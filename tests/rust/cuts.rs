@@ -8,13 +8,13 @@ mod changes;
 
 use changes::{change, Change, FILES};
 use std::ops::AddAssign;
-use support::boards::{block_count, formatted, laid};
+use support::boards::{bare, block_count, laid};
 use support::files::contents;
 use support::library;
 use support::performed;
 use support::random::Random;
 use support::rounds::Words;
-use support::stores::{self, all_but, alone, arrive, epochs, sets, Store, BARRIER};
+use support::stores::{all_but, alone, arrive, as_plan, epochs, sets, Store, BARRIER};
 use support::ways::Ways;
 
 /// Epochs of more stores than this are cut at so many sets, most of them random.
@@ -95,7 +95,7 @@ fn cut(random: &mut Random, board: &[u64], change: &Change) -> Result<Tally, Str
             tally.boards += 1;
             tally.read_as_after += u64::from(last_arrived);
         }
-        performed::whole(&mut stands, &stores::laid(epoch));
+        performed::whole(&mut stands, &as_plan(epoch));
         tally.epochs += 1;
         tally.epochs_by_all_sets += u64::from(n <= ALL_SETS);
     }
@@ -134,7 +134,7 @@ impl Spoilt {
 }
 
 fn without_barriers(plan: &[u64]) -> Vec<u64> {
-    stores::laid(&epochs(plan).concat())
+    as_plan(&epochs(plan).concat())
 }
 
 fn last_store_alone(plan: &[u64]) -> Vec<u64> {
@@ -190,15 +190,15 @@ impl Test {
                 assert!(format_cut(board, &left, first_arrived, last_arrived), "format cut in epoch {at}");
                 self.format_boards += 1;
             }
-            performed::whole(&mut stands, &stores::laid(epoch));
+            performed::whole(&mut stands, &as_plan(epoch));
         }
         self.formats += 1;
     }
 
     fn round(&mut self) {
         let blocks = block_count(&mut self.random);
-        let mut board =
-            if self.random.one_in(3) { formatted(&mut self.random, blocks) } else { laid(&mut self.random, blocks) };
+        let kind = if self.random.one_in(3) { bare } else { laid };
+        let mut board = kind(&mut self.random, blocks);
         self.history(&mut board);
         if self.random.one_in(8) {
             self.format(&board);

@@ -10,7 +10,7 @@ use calls::Calls;
 use std::io::Write;
 use std::process::{Command, Stdio};
 use support::bands;
-use support::boards::{block_count, damage, formatted, image_of, laid, room, unknown, GREATEST};
+use support::boards::{bare, block_count, damage, image_of, laid, room, unknown, GREATEST};
 use support::library;
 use support::past_end;
 use support::random::Random;
@@ -256,13 +256,13 @@ fn listed(image: &[u8]) -> String {
 
 // ---- Rounds
 
-/// A board of each kind: laid, formatted, unknown, or one of these damaged.
+/// A board of each kind: laid, bare, unknown, or one of these damaged.
 fn some_board(random: &mut Random) -> Vec<u64> {
     let blocks = block_count(random);
     let mut board = match random.below(8) {
         0 => return unknown(random, blocks),
         1..=4 => laid(random, blocks),
-        _ => formatted(random, blocks),
+        _ => bare(random, blocks),
     };
     if random.one_in(4) {
         damage(random, &mut board);
@@ -274,8 +274,8 @@ impl Test {
     /// Every file number with every offset and length at or next to a bound.
     fn sweep(&mut self) {
         let blocks = self.random.pick(&[16, 24, 40, 100]);
-        let bare = self.random.one_in(3);
-        let mut board = if bare { formatted(&mut self.random, blocks) } else { laid(&mut self.random, blocks) };
+        let kind = if self.random.one_in(3) { bare } else { laid };
+        let mut board = kind(&mut self.random, blocks);
         if self.random.one_in(4) {
             damage(&mut self.random, &mut board);
         }

@@ -13,7 +13,7 @@ pub fn epochs(plan: &[u64]) -> Epochs {
 }
 
 /// The stores as a plan of one epoch.
-pub fn laid(stores: &[Store]) -> Vec<u64> {
+pub fn as_plan(stores: &[Store]) -> Vec<u64> {
     stores.iter().flat_map(|&(address, value)| [address, value]).collect()
 }
 
