@@ -18,7 +18,7 @@ import sys
 ROOT = os.path.dirname(os.path.dirname(os.path.dirname(os.path.abspath(__file__))))
 sys.path.insert(0, os.path.join(ROOT, 'tests', 'reference'))
 import board as B
-from making import image_of, spoilt, whole_words, with_word
+from making import image_of, spoilt, with_word
 
 LISTER = os.path.join(ROOT, 'target', 'bin', 'lister')
 VALGRIND = ['valgrind', '-q', '--error-exitcode=99', '--exit-on-first-error=yes']
@@ -49,8 +49,8 @@ def fuzzed(folder):
 
 
 def with_words(rnd, image):
-    """Some words made others."""
-    words = whole_words(image)
+    """Some words made others; bytes that fill no word stay."""
+    words = B.words_of(image[:len(image) // 8 * 8])
     for _ in range(rnd.randrange(1, 4) if words else 0):
         at = rnd.randrange(len(words))
         words = with_word(words, at, spoilt(rnd, words, at, range(len(words) // 8 + 2)))

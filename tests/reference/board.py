@@ -29,7 +29,7 @@ def bytes_of(word):
 
 
 def word_of(values):
-    return sum(x << (8 * i) for i, x in enumerate(values))
+    return int.from_bytes(values, 'little')
 
 
 def words_of(image):

@@ -26,12 +26,6 @@ def image_of(words):
     return struct.pack('<%dQ' % len(words), *words)
 
 
-def whole_words(image):
-    """The words of an image, as far as its bytes fill them."""
-    count = len(image) // 8
-    return list(struct.unpack('<%dQ' % count, image[:8 * count]))
-
-
 def some_bytes(rnd, count):
     return [rnd.randrange(256) for _ in range(count)]
 
