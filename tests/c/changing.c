@@ -202,7 +202,9 @@ static void write_at_the_wall(size_t size, uint64_t offset, size_t len)
         printf("expected the bytes that were written, found others\n");
 }
 
-/* Walks on so many words, pointers on the board and past it among them. */
+/* Walks on so many words, pointers on the board and past it among them. Tested here: a walk reads nothing past what is lent, which
+   the wall would end, and answers no negative number, nor a block where there is none: for a file above 31, on fewer than 16 words.
+   That it ends at the right block is tested elsewhere, against the Python model (words.py) and docs/src (tests/rust/walks.rs). */
 static void walks_at_the_wall(size_t words)
 {
     about("walks on %zu words, at the wall", words);
