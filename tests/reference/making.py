@@ -165,7 +165,7 @@ def damaged(rnd, words, count=1):
 
 
 def null_inodes(rnd, words):
-    """The sound board with its inode root, or each second inode pointer, null; low bits are any."""
+    """The sound board with its inode root, or any four of its inode pointers, null; low bits are any."""
     survey = B.Survey(words)
     if rnd.random() < 0.4:
         return with_word(words, len(words) - 8, rnd.randrange(8))

@@ -331,7 +331,7 @@ fn main() {
             break;
         }
         // Walks have numbers of their own, so that the other calls are the same with and without them.
-        walks.round(&mut Random::new(words.seed, !round));
+        walks.round(&mut Random::new(words.seed, !round - 1));
         test.random = Random::new(words.seed, round);
         if round < SWEEPS || round % SWEEP_EVERY == 0 {
             test.sweep();

@@ -1,6 +1,6 @@
 //! The built library held against write and perform in plain Rust as they are made to be fast (docs/src/fast): every
-//! answer, every word of a plan and every word of a board, in random writes and length changes: a long history on a
-//! board of 1,024 blocks, in which trees are soon as high as they get, then short ones on boards of any size that no
+//! answer, every word of a plan and every word of a board, in random writes, between length changes by the library
+//! alone: a long history on a board of 1,024 blocks, in which trees are soon as high as they get, then short ones on boards of any size that no
 //! history of calls leaves, damaged ones among them.
 //!
 //!     same_plans SEED WRITES [ROUND]    rounds of the seed from ROUND on, until WRITES writes have been compared

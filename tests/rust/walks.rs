@@ -50,11 +50,17 @@ impl Seen {
 
 /// Few words or many of which nothing is known, a board with null inodes, or one as the other calls get them.
 fn any_board(random: &mut Random) -> Vec<u64> {
-    let (few, blocks) = (random.below(41), block_count(random));
     match random.below(8) {
-        0 => hostile(random, few as usize),
-        1 => hostile(random, (8 * blocks + few) as usize),
+        0 => {
+            let few = random.below(41);
+            hostile(random, few as usize)
+        }
+        1 => {
+            let words = 8 * block_count(random) + random.below(41);
+            hostile(random, words as usize)
+        }
         2 | 3 => {
+            let blocks = block_count(random);
             let mut board = laid(random, blocks);
             null_inodes(random, &mut board);
             board
@@ -139,14 +145,14 @@ impl Walks {
             ("to a hole of an accepted board", end == 0 && !refused),
             ("to a block of a refused board", end != 0 && refused),
             ("to a hole of a refused board", end == 0 && refused),
-            ("to a block off the board", end >= words.div_ceil(8)),
+            ("to a block off the board", end != 0 && end >= words.div_ceil(8)),
             ("to the trailer", end != 0 && end + 1 == words / 8),
             ("to a block at or past the size", end != 0 && byte >= seen.size),
             ("of a file above 31", !there),
             ("on fewer than 16 words", there && words < 16),
             ("on words that are no whole blocks, to a block", end != 0 && words % 8 != 0),
             ("by a null inode root", lent && seen.inode_root / 8 == 0),
-            ("by an inode root off the board", lent && seen.inode_root >= words),
+            ("by an inode root off the board", lent && seen.inode_root / 8 >= words.div_ceil(8)),
             ("by a null inode pointer", lent && seen.inode_root / 8 != 0 && seen.leaf == 0),
             ("by an inode pointer off the board", lent && seen.leaf >= words.div_ceil(8)),
             ("in an empty file", begun && seen.size == 0),

@@ -10,7 +10,7 @@ use Rattle.model.specs.Calls.{lowest}
 use Rattle.plans.specs.Onto.{taking}
 use Rattle.planning.specs.Asked.{Asked}
 
--- the table lists the free blocks, and `count` is how many there are
+-- a write that no refusal up to 6 turns away; the table lists the free blocks, and `count` is how many there are
 pub record Stocked (kind : Kind) (b : List ℕ) (f o : ℕ) (new table : List ℕ) (count : ℕ) : Type 0 where
   pub asked : Asked kind b f o new table
   pub lists : (i : ℕ) → taking table i ≡ lowest (layoutOf kind) b i

@@ -1,4 +1,4 @@
--- Where the walk to a byte of a file ends: at the live data blocks of the file, at each of them, and at none twice.
+-- Where the walk to a byte of a file ends: at the live data blocks of the file, at each of them, and at none from bytes of different blocks.
 use mathlib.Core.Path.{_≡_, sym, ap, _∙_}
 use mathlib.Core.Logic.{_≢_, inl, inr}
 use mathlib.Core.Bool.{Bool, true, false, cond}

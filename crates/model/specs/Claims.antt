@@ -110,7 +110,7 @@ HouseHeldRule = (b : List ℕ) → T (accepted house b) → sum 32 (heldCount ho
 
 -- ---- Block 0: *what it holds decides no answer*; that *no plan stores to it* is in the rules above
 
--- every call answers and leaves the same on b and b′
+-- every call answers the same on b and b′, and leaves the same buffer and plan
 pub record SameCalls (g : Layout) (b b′ : List ℕ) : Type 0 where
   pub checks : checkAnswer g b ≡ checkAnswer g b′
   pub counts : freeCountAnswer g b ≡ freeCountAnswer g b′

@@ -6,7 +6,7 @@ use lib.Dec.{T}
 use Rattle.model.specs.declared.Inode.{Inode}
 use Rattle.model.specs.declared.Kind.{Kind}
 use Rattle.model.specs.Layout.{layoutOf}
-use Rattle.model.specs.Board.{greatest, free, accepted}
+use Rattle.model.specs.Board.{greatest, accepted}
 use Rattle.plans.specs.Onto.{Blocks}
 
 -- a file of an accepted board

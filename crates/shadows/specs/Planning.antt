@@ -38,6 +38,6 @@ pub record Ready (kind : Kind) (bits : ℕ) (n : Inode) (o : ℕ) (new free scra
   pub spans : 0 < n .size → o + length new ≤ span (layoutOf kind .words) (n .root % layoutOf kind .words)
   pub place : base + 2 ^ bits * taken ≤ 2 ^ 16
 
--- the same of a target, where growth is planned before: the place behind its pairs and the blocks that it takes
+-- the same of a target, with growth's `base` and the blocks that growth takes
 abbrev pub ReadyFor : ℕ → Target → List ℕ → List ℕ → List ℕ → Grown → Type 0
 ReadyFor bits t new free scratch grown = Ready (t .kind) bits (t .inode) (t .offset) new free scratch grown (grown .base) (grown .levels)

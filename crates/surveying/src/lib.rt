@@ -1,4 +1,4 @@
-// Whether a board is accepted, which of its blocks are live, and which are free.
+// Whether a board is accepted, and has a file; which of its blocks are live, and which are free.
 use boards::inode_pointer;
 use boards::last;
 use boards::root;

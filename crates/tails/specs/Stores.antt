@@ -32,6 +32,6 @@ module _ (bits : ℕ) (board free : List ℕ) (grown : Grown) (e : End) (new : L
   abbrev pub storesAt : List Store
   storesAt = inPlace (2 ^ bits) (onto (2 ^ bits) free board grown) (hooks (2 ^ bits) free) (e .tree .height) (e .tree .block) (e .tree .left) (padded (e .length) new) (e .taken) (e .at)
 
--- where l zeros are written, and each pointer that isn't live gets 0
+-- `inPlace` on the lent board, the tree's pointer at address a, where l zeros are written: each pointer that isn't live and leads to them gets 0
 abbrev pub clearedAt : ℕ → List ℕ → Tree → ℕ → ℕ → List Store
 clearedAt bits b t l a = inPlace (2 ^ bits) b (λ h l c. 0) (t .height) (t .block) (t .left) (replicate l 0) 0 a

@@ -1,6 +1,6 @@
 // Blocks taken for a write: what of its bytes falls under a child, a block's words, its stores in the plan, which blocks of a tree are made fresh and how
-// many. A block has 2 ^ bits words. `board` is read with the growth `grown` performed; `free` lists the free blocks; c counts those taken; `base` is how
-// many pairs of the plan stand for no fresh block (in `grown`, where that is there).
+// many. A block has 2 ^ bits words. `board` is read with the growth `grown` performed; `free` lists the free blocks; c counts those taken; `base` is
+// that of `Grown`.
 use plans::Grown;
 use plans::block;
 use plans::link_on;

@@ -1,6 +1,6 @@
 // Trees of blocks: the walk to a byte, the crawl that marks live blocks, and their count. A tree is (h, k, n), as in the
-// definitions: its height, its block, and how many of its bytes lie below the file's size. A block has 2 ^ bits words. The walk and the crawl
-// take the three as numbers, which stay in registers; a struct is laid in memory for each call.
+// definitions: its height, its block, and how many of its bytes lie below the file's size. A block has 2 ^ bits words. Functions here take
+// the three as numbers, which stay in registers.
 use model::WalkEnd;
 use words::block_of;
 use words::cell;
