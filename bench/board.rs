@@ -1,9 +1,10 @@
 //! The board that every method starts from, and what the methods share.
 
+use std::collections::BTreeSet;
 use std::ops::Range;
-use support::boards;
+use support::boards::FILES as ALL_FILES;
 use support::files::{contents, put};
-use support::library;
+use support::library::HOUSE;
 use support::performed::{done, formatted, set_length, write};
 use support::random::Random;
 use support::stores::{epochs, Epochs};
@@ -12,6 +13,9 @@ use support::stores::{epochs, Epochs};
 pub const BOARD: usize = 8192;
 /// Words of the whole memory.
 pub const MEMORY: usize = BOARD + 2048;
+
+/// Bytes under a tree of each height.
+pub const SPAN: &[u64] = support::layout::HOUSE.spans;
 
 pub const SCORES: u64 = 0;
 pub const COINS: u64 = 1;
@@ -56,12 +60,12 @@ pub fn word_of(bytes: &[u8], offset: u64) -> u64 {
 /// All files, or nothing where the board is refused.
 pub fn read(memory: &[u64]) -> Option<Files> {
     let board = &memory[..BOARD];
-    if library::check(board) != 0 {
+    if HOUSE.check(board) != 0 {
         return None;
     }
     let files = contents(board, FILES);
     for (file, bytes) in (0..).zip(&files) {
-        assert_eq!(done(library::size(board, file)), bytes.len() as u64);
+        assert_eq!(done(HOUSE.size(board, file)), bytes.len() as u64);
     }
     Some(files)
 }
@@ -84,13 +88,17 @@ pub fn change(memory: &mut [u64], change: &Change) -> Epochs {
 
 /// The address of a file's root word; its size is in the word after it.
 pub fn inode(memory: &[u64], file: u64) -> u64 {
-    boards::inode(&memory[..BOARD], file) as u64
+    HOUSE.layout.inode(&memory[..BOARD], file) as u64
 }
 
 /// The free blocks, rising.
 pub fn free(memory: &[u64]) -> Vec<u64> {
-    let free = boards::free_blocks(&memory[..BOARD]);
-    assert_eq!(free.len() as u64, done(library::free_count(&memory[..BOARD])));
+    let (board, layout) = (&memory[..BOARD], HOUSE.layout);
+    let mut used: BTreeSet<u64> = layout.live_blocks(board).into_iter().collect();
+    used.extend((0..ALL_FILES).map(|file| inode(board, file) / layout.block));
+    used.extend([0, layout.pointer_block(board) as u64 / layout.block, layout.blocks(board) - 1]);
+    let free: Vec<u64> = (0..layout.blocks(board)).filter(|block| !used.contains(block)).collect();
+    assert_eq!(free.len() as u64, done(HOUSE.free_count(board)));
     free
 }
 

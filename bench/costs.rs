@@ -1,16 +1,20 @@
 //! What a change of a file costs in stores, bytes, barriers and space: by this store's own plans, by a redo journal
 //! (journal.rs) and by shadow paging copied up to the root (shadow.rs), on the same board. Each is performed, and every
-//! method must pass the same power cuts (cuts.rs). Prints Markdown tables, or CSV if called with `--csv`.
+//! method must pass the same power cuts (cuts.rs). Then the same on boards with either block (blocks.rs). Prints Markdown
+//! tables, or CSV if called with `--csv`.
 
+mod blocks;
 mod board;
 mod cuts;
 mod journal;
 mod shadow;
+mod tables;
 
 use board::{accepted, after, change, free, starting_board, Change, BOARD, COINS, LOG, PICTURE, SCORES};
 use std::collections::BTreeSet;
 use support::random::Random;
 use support::stores::{arrive, Epochs};
+use tables::{print_heading, print_row, with_commas};
 
 struct Method {
     name: &'static str,
@@ -175,24 +179,8 @@ fn in_place_with_next(operation: &Operation, cuts: &mut u64) -> Cost {
 
 // ---- Tables
 
-fn with_commas(number: u64) -> String {
-    match number {
-        0..=999 => number.to_string(),
-        _ => format!("{},{:03}", with_commas(number / 1000), number % 1000),
-    }
-}
-
 type Row = (&'static str, Vec<Option<Cost>>);
 type Figure = fn(&Cost) -> u64;
-
-fn print_heading(columns: &[String]) {
-    println!("\n| | {} |", columns.join(" | "));
-    println!("|---|{}", "---|".repeat(columns.len()));
-}
-
-fn print_row(name: &str, figures: &[String]) {
-    println!("| {name} | {} |", figures.join(" | "));
-}
 
 /// Two figures of each of the compared methods.
 fn print_table(rows: &[Row], headings: [&str; 2], figures: [Figure; 2], last: Option<(&str, [u64; COMPARED])>) {
@@ -252,5 +240,6 @@ fn main() {
     let standing = ("reserved at all times", [0, 8 * (2 * entries + 1), 0]);
     print_table(&rows, ["bytes stored", "extra bytes"], [|c| 8 * c.stores, |c| c.extra], Some(standing));
     print_other_journals(&rows, &in_place_with_next);
+    blocks::print_table();
     println!("\npower cuts: {}, each read wholly as before or wholly as after", with_commas(cuts));
 }

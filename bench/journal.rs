@@ -5,10 +5,9 @@
 //! three epochs: entries and hidden stores; the commit word; the stores in place. The next one fills the other area,
 //! so the commit word is never cleared: until it changes, the last transaction can be replayed.
 
-use crate::board::{accepted, after, free, inode, word_of, Change, BOARD};
+use crate::board::{accepted, after, free, inode, word_of, Change, BOARD, SPAN};
 use std::collections::BTreeMap;
 use std::ops::Range;
-use support::boards::SPAN;
 use support::stores::{Epochs, Store};
 
 const COMMIT: usize = BOARD;

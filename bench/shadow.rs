@@ -1,8 +1,7 @@
 //! Shadow paging copied up to the root on the same board: the data blocks, every pointer block above them, the inode
 //! leaf and the inode pointer block are copied whole. The commit is trailer word 0, the one root of the board.
 
-use crate::board::{accepted, after, free, inode, word_of, Change, Files, BOARD};
-use support::boards::SPAN;
+use crate::board::{accepted, after, free, inode, word_of, Change, Files, BOARD, SPAN};
 use support::stores::{Epochs, Store};
 
 struct Copier<'a> {

@@ -1,7 +1,7 @@
 //! Board images held as bytes: their decoding, the calls that the cabinet's C program makes on them, and the text that
-//! the lister prints.
+//! the lister prints. All of this is for the boards of document 01.
 
-use crate::board::{block_count, held_count, inode, FILES};
+use crate::board::{block_count, held_count, inode, Board, FILES, HOUSE};
 use crate::calls;
 
 /// The lister refuses an image of more bytes than this.
@@ -23,17 +23,17 @@ fn decode_word(bytes: &[u8]) -> u64 {
 
 /// `check` on an image.
 pub fn image_check(image: &[u8]) -> Result<u64, u64> {
-    calls::check(&decode(image)?)
+    calls::check(&HOUSE, &decode(image)?)
 }
 
 /// `size` on an image.
 pub fn image_size(image: &[u8], file: u64) -> Result<u64, u64> {
-    calls::size(&decode(image)?, file)
+    calls::size(&HOUSE, &decode(image)?, file)
 }
 
 /// `read` on an image.
 pub fn image_read(image: &[u8], file: u64, offset: u64, out: &mut [u8]) -> Result<u64, u64> {
-    calls::read(&decode(image)?, file, offset, out)
+    calls::read(&HOUSE, &decode(image)?, file, offset, out)
 }
 
 /// "C gets each answer as a signed 64-bit number, a refusal r as −r."
@@ -51,15 +51,16 @@ pub fn listing(image: &[u8]) -> String {
 
 /// "First line: B, free count. Then each file of size above 0, rising."
 fn accepted_listing(image: &[u8]) -> Result<String, u64> {
-    let board = decode(image)?;
-    let free = calls::free_count(&board)?;
-    let files: String = (0..FILES).map(|file| file_line(&board, file)).collect();
-    Ok(format!("blocks {} free {free}\n{files}", block_count(&board)))
+    let words = decode(image)?;
+    let free = calls::free_count(&HOUSE, &words)?;
+    let board = Board { layout: &HOUSE, words: &words };
+    let files: String = (0..FILES).map(|file| file_line(board, file)).collect();
+    Ok(format!("blocks {} free {free}\n{files}", block_count(board)))
 }
 
 /// The line of a file: "number, size, root's height", then as N1 says "the column is headed held and counts every live
 /// block of the file, data and pointers"; nothing for a file of size 0.
-fn file_line(board: &[u64], file: u64) -> String {
+fn file_line(board: Board, file: u64) -> String {
     let inode = inode(board, file);
     if inode.size == 0 {
         return String::new();

@@ -1,10 +1,10 @@
 //! Plans: what a write, a length change and a format would store, as a list of epochs. Nothing here tests the room in
 //! the plan slice; a write for which the free blocks don't suffice has no plan. Write and length change expect an
-//! accepted board, a file number up to 31, and an end or length up to 32,768.
+//! accepted board, a file number up to 31, and an end or length up to the greatest size.
 
 use crate::board::{
-    address, block_count, byte, free_blocks, inode, least_height, trailer_rest, walk, word, words, Inode, Place,
-    Subtree, BLOCK_BYTES,
+    block_count, byte, free_blocks, inode, trailer_rest, walk, words, Board, Inode, Layout, Place, Subtree,
+    INODE_ROOT_LOW, WORD_BYTES,
 };
 
 /// One store: address and value.
@@ -25,10 +25,10 @@ pub fn pairs(plan: &[Epoch]) -> Vec<Store> {
     plan.join(&(BARRIER, 0))
 }
 
-/// Performs all stores of a plan on a board.
-fn perform_all(board: &mut [u64], plan: &[Epoch]) {
+/// Performs all stores of a plan on the words of a board.
+fn perform_all(words: &mut [u64], plan: &[Epoch]) {
     for &(address, value) in plan.iter().flatten() {
-        board[address as usize] = value;
+        words[address as usize] = value;
     }
 }
 
@@ -45,58 +45,62 @@ fn in_file_order(mut stores: Vec<Placed>) -> Vec<Store> {
 
 /// The fresh blocks of a plan: those still to be taken, and the stores that fill those taken.
 struct Fresh {
+    layout: &'static Layout,
     free: std::vec::IntoIter<u64>,
     stores: Vec<Store>,
 }
 
 impl Fresh {
-    fn of(board: &[u64]) -> Fresh {
-        Fresh { free: free_blocks(board).into_iter(), stores: Vec::new() }
+    fn of(board: Board) -> Fresh {
+        Fresh { layout: board.layout, free: free_blocks(board).into_iter(), stores: Vec::new() }
     }
 
     /// "Fresh blocks are taken lowest number first", "eight stores each in word order". `None` if none is left.
-    fn take(&mut self, words: [u64; 8]) -> Option<u64> {
+    fn take(&mut self, words: Vec<u64>) -> Option<u64> {
         let block = self.free.next()?;
-        self.stores.extend((0..).zip(words).map(|(index, value)| (address(block, index), value)));
+        self.stores.extend((0..).zip(words).map(|(index, value)| (self.layout.address(block, index), value)));
         Some(block)
     }
 }
 
 /// The plan of a write; `None` if there are fewer free blocks than its fresh ones, growth included.
-pub fn write(board: &[u64], file: u64, offset: u64, bytes: &[u8]) -> Option<Plan> {
+pub fn write(board: Board, file: u64, offset: u64, bytes: &[u8]) -> Option<Plan> {
     if bytes.is_empty() {
         return Some(Plan::new()); // Rule 1.
     }
     let mut plan = growth(board, inode(board, file), offset + bytes.len() as u64)?;
     // "What follows sees the grown tree."
-    let mut grown = board.to_vec();
+    let mut grown = board.words.to_vec();
     perform_all(&mut grown, &plan);
-    plan.extend(Write::on(&grown, file, offset, bytes).plan()?);
+    plan.extend(Write::on(Board { words: &grown, ..board }, file, offset, bytes).plan()?);
     Some(plan)
 }
 
 /// Rule 2: the epochs of growth, none if the tree needn't grow.
-fn growth(board: &[u64], inode: Inode, end: u64) -> Option<Plan> {
+fn growth(board: Board, inode: Inode, end: u64) -> Option<Plan> {
     if inode.size == 0 || end <= inode.tree().end() {
         return Some(Plan::new());
     }
-    let height = least_height(end);
+    let layout = board.layout;
+    let height = layout.least_height(end);
     if inode.tree().block == 0 {
         // "A null root gets the root word alone."
-        return Some(vec![vec![(inode.root_address(), height)]]);
+        return Some(vec![vec![(inode.root_address(), layout.pointer(0, height))]]);
     }
     let mut fresh = Fresh::of(board);
     let mut top = inode.tree().block;
     for _ in inode.tree().height..height {
         // "Its first pointer the old tree and the rest 0."
-        top = fresh.take([8 * top, 0, 0, 0, 0, 0, 0, 0])?;
+        let mut words = vec![0; layout.block_words as usize];
+        words[0] = layout.pointer(top, 0);
+        top = fresh.take(words)?;
     }
-    Some(vec![fresh.stores, vec![(inode.root_address(), 8 * top + height)]])
+    Some(vec![fresh.stores, vec![(inode.root_address(), layout.pointer(top, height))]])
 }
 
 /// A write of at least one byte, on a board whose tree for the file has grown already if it had to.
 struct Write<'a> {
-    board: &'a [u64],
+    board: Board<'a>,
     inode: Inode,
     offset: u64,
     bytes: &'a [u8],
@@ -105,7 +109,7 @@ struct Write<'a> {
 }
 
 impl<'a> Write<'a> {
-    fn on(board: &'a [u64], file: u64, offset: u64, bytes: &'a [u8]) -> Write<'a> {
+    fn on(board: Board<'a>, file: u64, offset: u64, bytes: &'a [u8]) -> Write<'a> {
         Write { board, inode: inode(board, file), offset, bytes, end: offset + bytes.len() as u64 }
     }
 
@@ -137,15 +141,16 @@ impl<'a> Write<'a> {
     /// Rule 3: "If e ≤ s, all bytes fall in one word and its data block exists: one store, the word's other bytes
     /// kept."
     fn single_word(&self) -> Option<Plan> {
-        let first = self.offset - self.offset % 8;
-        if self.end > self.inode.size || self.end > first + 8 {
+        let first = self.offset - self.offset % WORD_BYTES;
+        if self.end > self.inode.size || self.end > first + WORD_BYTES {
             return None;
         }
         let Place::Block(block) = walk(self.board, self.inode, self.offset) else {
             return None;
         };
-        let kept = |position| self.written(position).unwrap_or(byte(self.board, block, position % BLOCK_BYTES));
-        Some(vec![vec![(address(block, first % BLOCK_BYTES / 8), word_of(first, kept))]])
+        let kept = |position| self.written(position).unwrap_or(byte(self.board, block, position));
+        let index = first % self.board.layout.block_bytes() / WORD_BYTES;
+        Some(vec![vec![(self.board.layout.address(block, index), word_of(first, kept))]])
     }
 
     /// Rule 4's condition: "o = s and no live pointer on the path to byte o is null". With s = 0 no pointer is live, so
@@ -175,10 +180,11 @@ impl<'a> Write<'a> {
         let mut others = Vec::new();
         if self.inode.size == 0 {
             // "The old root is ignored and the least sufficient height is used." N3: "with holes left null".
-            let height = least_height(self.end);
-            let hole = Subtree { block: 0, height, start: 0 };
+            let layout = self.board.layout;
+            let height = layout.least_height(self.end);
+            let hole = Subtree { layout, block: 0, height, start: 0 };
             let block = self.build(&mut fresh, hole)?;
-            others.push((0, (self.inode.root_address(), 8 * block + height)));
+            others.push((0, (self.inode.root_address(), layout.pointer(block, height))));
         } else {
             self.extend(&mut fresh, &mut others, self.inode.tree())?;
         }
@@ -193,7 +199,7 @@ impl<'a> Write<'a> {
             self.extend_data(others, tree);
             return Some(());
         }
-        for index in 0..8 {
+        for index in 0..self.board.layout.block_words {
             let below = tree.below(self.board, index, self.inode.size);
             if !self.touches(below.start, below.end()) {
                 continue;
@@ -203,7 +209,7 @@ impl<'a> Write<'a> {
             } else {
                 // "Pointers that aren't live and lead to written bytes get fresh subtrees."
                 let block = self.build(fresh, below)?;
-                others.push((below.start, (address(tree.block, index), 8 * block)));
+                others.push((below.start, (tree.address(index), self.board.layout.pointer(block, 0))));
             }
         }
         Some(())
@@ -211,11 +217,11 @@ impl<'a> Write<'a> {
 
     /// "Existing data words that hold written bytes are stored, bytes at or past e as 0."
     fn extend_data(&self, others: &mut Vec<Placed>, data: Subtree) {
-        for index in 0..8 {
-            let first = data.start + 8 * index;
-            if self.touches(first, first + 8) {
+        for index in 0..self.board.layout.block_words {
+            let first = data.start + WORD_BYTES * index;
+            if self.touches(first, first + WORD_BYTES) {
                 let value = word_of(first, |position| self.visible(data.block, position));
-                others.push((first, (address(data.block, index), value)));
+                others.push((first, (data.address(index), value)));
             }
         }
     }
@@ -228,26 +234,27 @@ impl<'a> Write<'a> {
         let mut low = tree.height; // The root word has the height in its low bits, other pointers 0.
         while tree.block != 0 && tree.height > 0 && tree.index_over(self.offset) == tree.index_over(self.end - 1) {
             let index = tree.index_over(self.offset);
-            commit = address(tree.block, index);
+            commit = tree.address(index);
             low = 0;
             tree = tree.below(self.board, index, self.inode.size);
         }
         let mut fresh = Fresh::of(self.board);
         let block = self.build(&mut fresh, tree)?;
-        Some(vec![fresh.stores, vec![(commit, 8 * block + low)]])
+        Some(vec![fresh.stores, vec![(commit, self.board.layout.pointer(block, low))]])
     }
 
     /// Rule 6: "fresh blocks on all paths from the root to written bytes, and a fresh copy of the inode leaf with new
-    /// root and size; the commit is the inode pointer". An offset above a size that isn't 0 goes this way too.
+    /// root and size; the commit is the inode pointer". An offset above a size that isn't 0 goes this way too. N11: "Leaf
+    /// words from 64 on may hold anything and are copied as found."
     fn shadow_with_length(&self) -> Option<Plan> {
         let mut fresh = Fresh::of(self.board);
         let tree = self.inode.tree();
         let block = self.build(&mut fresh, tree)?;
         let mut copy = words(self.board, self.inode.leaf);
-        copy[self.inode.index as usize] = 8 * block + tree.height;
+        copy[self.inode.index as usize] = self.board.layout.pointer(block, tree.height);
         copy[self.inode.index as usize + 1] = self.end;
         let leaf = fresh.take(copy)?;
-        Some(vec![fresh.stores, vec![(self.inode.pointer_address, 8 * leaf)]])
+        Some(vec![fresh.stores, vec![(self.inode.pointer_address, self.board.layout.pointer(leaf, 0))]])
     }
 
     /// Whether the path to byte s − 1 has an existing block at `old`, for an offset above the size. N3: "the path to
@@ -272,32 +279,33 @@ impl<'a> Write<'a> {
     /// The pointers of a fresh block: "bytes and pointers at or past the new size are 0". N3: "A pointer whose span
     /// starts at s or later and has no written byte beneath it is null." So a pointer that is not replaced is the old
     /// one if it was live, and otherwise 0.
-    fn pointer_words(&self, fresh: &mut Fresh, old: Subtree) -> Option<[u64; 8]> {
-        let mut words = [0; 8];
-        for (index, pointer) in (0..).zip(&mut words) {
+    fn pointer_words(&self, fresh: &mut Fresh, old: Subtree) -> Option<Vec<u64>> {
+        let mut words = Vec::new();
+        for index in 0..self.board.layout.block_words {
             let below = old.below(self.board, index, self.inode.size);
             let block = if self.made_fresh(below) { self.build(fresh, below)? } else { below.block };
-            *pointer = 8 * block;
+            words.push(self.board.layout.pointer(block, 0));
         }
         Some(words)
     }
 
     /// The words of a fresh data block. The block with byte s − 1 has "zeros from s on" where nothing is written.
-    fn data_words(&self, old: Subtree) -> [u64; 8] {
-        std::array::from_fn(|index| word_of(old.start + 8 * index as u64, |position| self.visible(old.block, position)))
+    fn data_words(&self, old: Subtree) -> Vec<u64> {
+        let first_of = |index| old.start + WORD_BYTES * index;
+        let word_at = |index| word_of(first_of(index), |position| self.visible(old.block, position));
+        (0..self.board.layout.block_words).map(word_at).collect()
     }
 
     /// The byte that is visible after the write, where the old data block is `block` (0 for a hole): the caller's, or
     /// the old one below the size, or 0.
     fn visible(&self, block: u64, position: u64) -> u8 {
-        let old =
-            if block != 0 && position < self.inode.size { byte(self.board, block, position % BLOCK_BYTES) } else { 0 };
+        let old = if block != 0 && position < self.inode.size { byte(self.board, block, position) } else { 0 };
         self.written(position).unwrap_or(old)
     }
 }
 
 /// The plan of a length change.
-pub fn set_length(board: &[u64], file: u64, length: u64) -> Plan {
+pub fn set_length(board: Board, file: u64, length: u64) -> Plan {
     let inode = inode(board, file);
     if length == inode.size {
         return Plan::new();
@@ -313,7 +321,7 @@ pub fn set_length(board: &[u64], file: u64, length: u64) -> Plan {
 }
 
 /// The epoch that stands before the size when a file gets longer.
-fn clearing(board: &[u64], inode: Inode, length: u64) -> Epoch {
+fn clearing(board: Board, inode: Inode, length: u64) -> Epoch {
     if inode.size == 0 {
         return vec![(inode.root_address(), 0)]; // "With s = 0 it stores 0 to the root word."
     }
@@ -323,45 +331,50 @@ fn clearing(board: &[u64], inode: Inode, length: u64) -> Epoch {
 }
 
 /// "0 to each pointer of a live block whose span starts in s to n − 1", in and under a live block or a null one.
-fn clear(board: &[u64], tree: Subtree, size: u64, length: u64, stores: &mut Vec<Placed>) {
+fn clear(board: Board, tree: Subtree, size: u64, length: u64, stores: &mut Vec<Placed>) {
     if tree.block == 0 {
         return;
     }
     if tree.height == 0 {
         return clear_data(board, tree, size, length, stores);
     }
-    for index in 0..8 {
+    for index in 0..board.layout.block_words {
         let first = tree.first(index);
         if first < size {
             clear(board, tree.below(board, index, size), size, length, stores);
         } else if first < length {
-            stores.push((first, (address(tree.block, index), 0)));
+            stores.push((first, (tree.address(index), 0)));
         }
     }
 }
 
 /// "Each word of the live data block holding byte s − 1 that covers bytes s to n − 1, zero there and past it." A word
 /// of a live data block that covers one of those bytes is in the block that holds byte s − 1.
-fn clear_data(board: &[u64], data: Subtree, size: u64, length: u64, stores: &mut Vec<Placed>) {
-    for index in 0..8 {
-        let first = data.start + 8 * index;
-        if first < length && size < first + 8 {
-            let kept = word(board, data.block, index).to_le_bytes();
-            let value = word_of(first, |position| if position < size { kept[(position % 8) as usize] } else { 0 });
-            stores.push((first, (address(data.block, index), value)));
+fn clear_data(board: Board, data: Subtree, size: u64, length: u64, stores: &mut Vec<Placed>) {
+    for index in 0..board.layout.block_words {
+        let first = data.start + WORD_BYTES * index;
+        if first < length && size < first + WORD_BYTES {
+            let kept = |position| if position < size { byte(board, data.block, position) } else { 0 };
+            stores.push((first, (data.address(index), word_of(first, kept))));
         }
     }
 }
 
-/// The plan of a format, for any board whose word count fits.
-pub fn format(board: &[u64]) -> Plan {
+/// The plan of a format, for any board whose word count fits: block 1 with pointers to the leaves, which follow it, then
+/// the leaves, "all zero", and the trailer. N11: "Format has the same three epochs, with block 1 for the pointers and
+/// block 2 as the leaf."
+pub fn format(board: Board) -> Plan {
+    let layout = board.layout;
     let trailer = block_count(board) - 1;
-    let pointers = (0..8).map(|index| (address(1, index), 8 * (2 + index)));
-    let leaves = (address(2, 0)..address(10, 0)).map(|address| (address, 0));
-    let rest = (1..).zip(trailer_rest(board)).map(|(index, value)| (address(trailer, index), value));
+    let leaves = 2..2 + layout.leaves;
+    let mut pointers: Vec<u64> = leaves.clone().map(|leaf| layout.pointer(leaf, 0)).collect();
+    pointers.resize(layout.block_words as usize, 0);
+    let pointers = (layout.address(1, 0)..).zip(pointers);
+    let zeros = (layout.address(leaves.start, 0)..layout.address(leaves.end, 0)).map(|address| (address, 0));
+    let rest = (layout.address(trailer, 1)..).zip(trailer_rest(board));
     vec![
-        vec![(address(trailer, 0), 0)],
-        pointers.chain(leaves).chain(rest).collect(),
-        vec![(address(trailer, 0), address(1, 0) + 1)],
+        vec![(layout.address(trailer, 0), 0)],
+        pointers.chain(zeros).chain(rest).collect(),
+        vec![(layout.address(trailer, 0), layout.pointer(1, INODE_ROOT_LOW))],
     ]
 }

@@ -5,7 +5,7 @@ import sys
 
 import board as B
 
-PLAN = [0] * 12000  # room for every plan
+PLAN = [0] * 12000  # room for every plan on the house's boards
 # Of files: at and around the spans and the bounds of words and blocks.
 SIZES = [0, 1, 7, 8, 63, 64, 65, 128, 130, 448, 500, 512, 513, 700, 4096, 4097, 4100, 9000, 32704, 32767, 32768]
 # What the lister prints on E2's board, by E13 with the column of N1.
@@ -33,33 +33,38 @@ def some_bytes(rnd, count):
 # ---- Boards by the model's own calls
 
 
-def performed(words, planned, pairs=None):
+def room(words):
+    """A slice for any plan on the board, which has fewer pairs than the board has words."""
+    return [0] * (2 * len(words))
+
+
+def performed(words, planned, pairs=None, layout=B.HOUSE):
     """The board after the plan, or after its first pairs; the same board where the call was refused."""
     count, plan = planned
-    return B.perform(words, plan, count if pairs is None else pairs)[1] if count > 0 else words
+    return B.perform(words, plan, count if pairs is None else pairs, layout)[1] if count > 0 else words
 
 
-def accepted(words, planned):
+def accepted(words, planned, layout=B.HOUSE):
     """The board after the plan of a call that must not be refused."""
     assert planned[0] >= 0, 'refused %d' % -planned[0]
-    return performed(words, planned)
+    return performed(words, planned, layout=layout)
 
 
-def formatted(words):
-    return accepted(words, B.format_board(words, PLAN))
+def formatted(words, layout=B.HOUSE):
+    return accepted(words, B.format_board(words, room(words), layout), layout)
 
 
-def with_writes(words, writes):
+def with_writes(words, writes, layout=B.HOUSE):
     """The board after these writes, none of which may be refused: file, offset, bytes."""
     for file, offset, new in writes:
-        words = accepted(words, B.write(words, file, offset, list(new), PLAN))
+        words = accepted(words, B.write(words, file, offset, list(new), room(words), layout), layout)
     return words
 
 
-def with_lengths(words, lengths):
+def with_lengths(words, lengths, layout=B.HOUSE):
     """The board after these length changes, none of which may be refused: file, length."""
     for file, length in lengths:
-        words = accepted(words, B.set_length(words, file, length, PLAN))
+        words = accepted(words, B.set_length(words, file, length, room(words), layout), layout)
     return words
 
 
@@ -77,36 +82,36 @@ def offset_past(rnd, size):
 # ---- Laid boards
 
 
-def rubbish(rnd, count):
+def rubbish(rnd, count, layout=B.HOUSE):
     """Bits for a word that decides nothing on a board of count blocks."""
-    return rnd.choice([rnd.getrandbits(64), 8 * rnd.randrange(1, count), rnd.randrange(8 * count + 40)])
+    return rnd.choice([rnd.getrandbits(64), layout.width * rnd.randrange(1, count), rnd.randrange(layout.width * count + 40)])
 
 
-def rubbish_words(rnd, count):
-    return [rubbish(rnd, count) for _ in range(8 * count)]
+def rubbish_words(rnd, count, layout=B.HOUSE):
+    return [rubbish(rnd, count, layout) for _ in range(layout.width * count)]
 
 
-def laid(rnd, count, files, exists, reserve=None):
+def laid(rnd, count, files, exists, reserve=None, layout=B.HOUSE):
     """A sound board of count blocks in any order. `files` has the height and the size of some files, by number; the others are empty. A live
     pointer over height h at byte x leads to a block where exists(h, x). With a reserve so many blocks stay free, and pointers are null when only
     those are left; without it blocks that do not suffice are an IndexError. Every word that decides nothing is rubbish."""
-    words, pool = rubbish_words(rnd, count), list(range(1, count - 1))
+    width, words, pool = layout.width, rubbish_words(rnd, count, layout), list(range(1, count - 1))
     rnd.shuffle(pool)
-    pointers, leaves = pool.pop(), [pool.pop() for _ in range(8)]
-    words[8 * (count - 1):] = [8 * pointers + 1, 512, count, 1, 0, 0, 0, 0]
-    words[8 * pointers:8 * pointers + 8] = [8 * leaf for leaf in leaves]
+    pointers, leaves = pool.pop(), [pool.pop() for _ in range(layout.leaves)]
+    words[width * (count - 1):] = [width * pointers + 1] + layout.trailer(count)
+    words[width * pointers:width * (pointers + 1)] = [width * leaf for leaf in leaves] + [0] * (width - layout.leaves)
 
     def tree(height, start, size):
         if start >= size:
-            return rubbish(rnd, count)
+            return rubbish(rnd, count, layout)
         if reserve is not None and len(pool) <= reserve or not exists(height, start):
             return 0
         block = pool.pop()
-        for j in range(8 if height else 0):
-            words[8 * block + j] = tree(height - 1, start + j * B.SPAN[height - 1], size)
-        return 8 * block
+        for j in range(width if height else 0):
+            words[width * block + j] = tree(height - 1, start + j * layout.span[height - 1], size)
+        return width * block
 
-    inodes = [8 * leaf + j for leaf in leaves for j in range(0, 8, 2)]
+    inodes = [width * leaf + 2 * j for leaf in leaves for j in range(layout.inodes)]
     for at in inodes:
         words[at + 1] = 0
     for file, (height, size) in files.items():
@@ -114,7 +119,7 @@ def laid(rnd, count, files, exists, reserve=None):
         words[at + 1] = size
         if size:
             words[at] = tree(height, 0, size) + height
-    assert B.check(words) == 0
+    assert B.check(words, layout) == 0
     return words
 
 

@@ -221,7 +221,7 @@ def one_file(rnd):
         along = rnd.random() < 0.5
 
         def exists(h, start):
-            return start <= size - 1 < start + B.SPAN[h] if along else rnd.random() >= holes
+            return start <= size - 1 < start + B.HOUSE.span[h] if along else rnd.random() >= holes
         try:
             return made(rnd, count, file, height, size, exists), file
         except IndexError:
@@ -262,7 +262,7 @@ def null_on_path(vectors, rnd):
     for height, size in [(1, 64), (1, 70), (2, 64), (2, 576), (2, 512), (2, 600), (3, 576), (3, 4160), (3, 4608), (3, 4096)]:
         for low in range(height + 1):
             def exists(h, start):
-                return h >= low and start <= size < start + B.SPAN[h]
+                return h >= low and start <= size < start + B.HOUSE.span[h]
             file = rnd.randrange(32)
             vectors.write(made(rnd, 24, file, height, size, exists), file, size, [rnd.randrange(256)])
 
@@ -272,7 +272,7 @@ def past_the_end(vectors, rnd):
     for height, size, offset, low in [(0, 64, 65, 0), (0, 64, 4096, 1), (0, 100, 130, 0), (0, 100, 600, 0), (1, 600, 5000, 0), (1, 64, 128, 0), (1, 64, 65, 1), (1, 70, 71, 0), (1, 70, 300, 2),
                                       (2, 512, 513, 0), (2, 512, 1024, 1), (2, 512, 600, 2), (2, 600, 700, 1), (2, 600, 2000, 0), (3, 4096, 4097, 1)]:
         def exists(h, start):
-            return h >= low if h == height or start < size <= start + B.SPAN[h] else rnd.random() < 0.2
+            return h >= low if h == height or start < size <= start + B.HOUSE.span[h] else rnd.random() < 0.2
         file = rnd.randrange(32)
         vectors.write(made(rnd, 40, file, height, size, exists), file, offset, some_bytes(rnd, rnd.randrange(1, 20)))
 
@@ -325,7 +325,7 @@ def each_height(vectors, rnd):
     """Images of boards with a file of each height: whole, with holes, with one path, with a null root; rubbish past the size in each."""
     for height, size, held, exists in [(0, 20, 1, lambda h, start: True), (1, 130, 4, lambda h, start: True),
                                        (2, 700, 5, lambda h, start: h > 0 or start in (0, 512)),
-                                       (3, 4200, 4, lambda h, start: start <= 4199 < start + B.SPAN[h]), (3, 600, 0, lambda h, start: False)]:
+                                       (3, 4200, 4, lambda h, start: start <= 4199 < start + B.HOUSE.span[h]), (3, 600, 0, lambda h, start: False)]:
         image = image_of(made(rnd, 20, 9, height, size, exists))
         assert B.listing(image).endswith('file 9 size %d height %d held %d\n' % (size, height, held)), B.listing(image)
         vectors.image(image, 9, size - 2, [9, 9, 9])
@@ -334,12 +334,12 @@ def each_height(vectors, rnd):
 def each_band(vectors, rnd):
     """The height by the bench sheet, at both ends of each band and at a size between them. Writes into an empty file and after growth, planned
     with that height and with one more."""
-    for first, last, _ in B.BANDS:
+    for first, last, _ in B.HOUSE.bands:
         for size in (first, rnd.randrange(first + 1, last), last):
             vectors.height(size)
     for height, size in [(0, 0), (0, 20)]:
         words = made(rnd, 24, 9, height, size, lambda h, start: True)
-        for tall, least in [('sheetHeight', B.least), ('(λ e. least 8 3 e + 1)', lambda end, least=B.least: least(end) + 1)]:
+        for tall, least in [('sheetHeight', B.least), ('(λ e. least 8 3 e + 1)', lambda end, layout, least=B.least: least(end, layout) + 1)]:
             vectors.write_by(words, 9, size, some_bytes(rnd, 100), tall, least)
 
 

@@ -1,30 +1,34 @@
 //! Boards to test with. Those that are laid here are accepted and look as no history of calls leaves them: holes, null
 //! roots with a height, sizes above the span, and rubbish wherever a board may have any bits. Damage spoils one thing.
 
+use crate::layout::{Layout, HOUSE};
 use crate::random::Random;
 
-pub const SPAN: [u64; 4] = [64, 512, 4096, 32768];
-pub const GREATEST: u64 = 32768;
+pub const FILES: u64 = 32;
 
 /// Room for every plan: none has more pairs than the board has words.
 pub fn room(board: &[u64]) -> usize {
     2 * board.len()
 }
 
-/// As many blocks as a board may have, small boards more often.
+// ---- The house's boards
+
 pub fn block_count(random: &mut Random) -> u64 {
-    match random.below(20) {
-        0 => 1024,
-        1 => 16 + random.below(1009),
-        2..=4 => 16,
-        5..=8 => 17 + random.below(24),
-        _ => 24 + random.below(200),
-    }
+    HOUSE.block_count(random)
+}
+
+pub fn laid(random: &mut Random, blocks: u64) -> Vec<u64> {
+    HOUSE.laid(random, blocks)
+}
+
+pub fn damage(random: &mut Random, board: &mut Vec<u64>) {
+    HOUSE.damage(random, board);
 }
 
 // ---- Laid boards
 
 struct Maker<'a> {
+    layout: &'a Layout,
     random: &'a mut Random,
     words: Vec<u64>,
     unused: Vec<u64>,
@@ -32,22 +36,13 @@ struct Maker<'a> {
     reserve: usize,
     /// One file in so many is empty.
     empty: u64,
-}
-
-/// Bits for a word that decides nothing on a board of so many blocks: any, or a pointer that would do harm if it were
-/// followed.
-pub fn rubbish(random: &mut Random, blocks: u64) -> u64 {
-    match random.below(4) {
-        0 => random.word(),
-        1 => 8 * random.below(blocks + 2),
-        2 => 8 * random.below(blocks) + random.below(8),
-        _ => random.pick(&[0, 1, u64::MAX, 1 << 63]),
-    }
+    /// No file is larger.
+    largest: u64,
 }
 
 impl Maker<'_> {
     fn rubbish(&mut self) -> u64 {
-        rubbish(self.random, self.words.len() as u64 / 8)
+        self.layout.rubbish(self.random, self.layout.blocks(&self.words))
     }
 
     fn take(&mut self) -> u64 {
@@ -64,10 +59,15 @@ impl Maker<'_> {
         if block == 0 || height == 0 {
             return block;
         }
-        for j in 0..8 {
-            let start = j * SPAN[height - 1];
-            let pointer = if start < below { 8 * self.tree(height - 1, below - start, holes) } else { self.rubbish() };
-            self.words[(8 * block + j) as usize] = pointer;
+        for j in 0..self.layout.block {
+            let start = j * self.layout.spans[height - 1];
+            let pointer = if start < below {
+                let child = self.tree(height - 1, below - start, holes);
+                self.layout.pointer(child, 0)
+            } else {
+                self.rubbish()
+            };
+            self.words[self.layout.pointer(block, j) as usize] = pointer;
         }
         block
     }
@@ -77,237 +77,271 @@ impl Maker<'_> {
         if self.random.one_in(self.empty) {
             return (self.rubbish(), 0);
         }
-        let height = self.random.pick(&[0, 0, 0, 1, 1, 2, 3]);
-        let size = file_size(self.random, height);
+        let height = self.random.pick(&[0, 0, 0, 1, 1, 2, 3]).min(self.layout.greatest_height());
+        let size = self.file_size(height);
         let holes = self.random.pick(&[0, 0, 1, 2, 3, 10]);
-        (8 * self.tree(height, size, holes) + height as u64, size)
+        let block = self.tree(height, size, holes);
+        (self.layout.pointer(block, height as u64), size)
+    }
+
+    /// A size of 1 or more for a tree of this height, at and around the spans, sometimes above its own.
+    fn file_size(&mut self, height: usize) -> u64 {
+        let (layout, random) = (self.layout, &mut *self.random);
+        let span = layout.spans[height];
+        let step = span / layout.block;
+        let size = match random.below(7) {
+            0 => 1 + random.below(self.largest),
+            1 => random.pick(layout.spans) + random.below(3) - 1,
+            2 => span - random.below(9).min(span - 1),
+            3 => span + 1 + random.below(3 * span),
+            4 => step * (1 + random.below(layout.block.min(layout.usual / step))) + random.below(2),
+            _ => 1 + random.below(span.min(layout.usual)),
+        };
+        size.clamp(1, self.largest)
     }
 }
 
-/// A size from 1 to 32,768 for a tree of this height, at and around the spans, sometimes above its own.
-fn file_size(random: &mut Random, height: usize) -> u64 {
-    let span = SPAN[height];
-    let size = match random.below(6) {
-        0 => 1 + random.below(GREATEST),
-        1 => random.pick(&[64, 512, 4096, 32768]) + random.below(3) - 1,
-        2 => span - random.below(9).min(span - 1),
-        3 => span / 8 * (1 + random.below(8)) + random.below(2),
-        _ => 1 + random.below(span),
-    };
-    size.clamp(1, GREATEST)
-}
+impl Layout {
+    /// Bits for a word that decides nothing on a board of so many blocks: any, or a pointer that would do harm if it were
+    /// followed.
+    pub fn rubbish(&self, random: &mut Random, blocks: u64) -> u64 {
+        match random.below(4) {
+            0 => random.word(),
+            1 => self.pointer(random.below(blocks + 2), 0),
+            2 => self.pointer(random.below(blocks), self.low_bits(random)),
+            _ => random.pick(&[0, 1, u64::MAX, 1 << 63]),
+        }
+    }
 
-fn trailer(blocks: u64, pointer_block: u64) -> [u64; 8] {
-    [8 * pointer_block + 1, 512, blocks, 1, 0, 0, 0, 0]
-}
+    /// Stores the trailer, and the inode pointer block with these pointers.
+    fn put_top(&self, words: &mut [u64], pointer_block: u64, pointers: &[u64]) {
+        let blocks = self.blocks(words);
+        self.put_block(words, blocks - 1, &[self.pointer(pointer_block, 1), 512, blocks, self.mark]);
+        self.put_block(words, pointer_block, pointers);
+    }
 
-/// An accepted board, its blocks in any order, with rubbish in block 0 and in every free block.
-pub fn laid(random: &mut Random, blocks: u64) -> Vec<u64> {
-    let empty = random.pick(&[1, 2, 3, 10]);
-    let words = vec![0; 8 * blocks as usize];
-    let mut maker = Maker { random, words, unused: (1..blocks - 1).collect(), reserve: 0, empty };
-    for at in 0..maker.words.len() {
-        maker.words[at] = maker.rubbish();
+    /// Stores a block that begins with these words; the others are 0.
+    fn put_block(&self, words: &mut [u64], block: u64, first: &[u64]) {
+        let stored = &mut words[self.pointer(block, 0) as usize..][..self.block as usize];
+        stored.fill(0);
+        stored[..first.len()].copy_from_slice(first);
     }
-    let pointer_block = maker.take();
-    let leaves: Vec<u64> = (0..8).map(|_| maker.take()).collect();
-    let share = maker.random.pick(&[0, 1, 2, 4, 6]);
-    maker.reserve = maker.unused.len() * share / 8;
-    for f in 0..32 {
-        let (root, size) = maker.file();
-        let at = (8 * leaves[f / 4]) as usize + 2 * (f % 4);
-        (maker.words[at], maker.words[at + 1]) = (root, size);
-    }
-    for (j, leaf) in leaves.iter().enumerate() {
-        maker.words[8 * pointer_block as usize + j] = 8 * leaf;
-    }
-    let end = maker.words.len();
-    maker.words[end - 8..].copy_from_slice(&trailer(blocks, pointer_block));
-    maker.words
-}
 
-/// A board of 32 empty files over rubbish, as format leaves it.
-pub fn bare(random: &mut Random, blocks: u64) -> Vec<u64> {
-    let mut words: Vec<u64> = (0..8 * blocks).map(|_| random.word()).collect();
-    for j in 0..8 {
-        words[8 + j] = 8 * (2 + j as u64);
+    fn pointers(&self, blocks: &[u64]) -> Vec<u64> {
+        blocks.iter().map(|&block| self.pointer(block, 0)).collect()
     }
-    words[16..80].fill(0);
-    let end = words.len();
-    words[end - 8..].copy_from_slice(&trailer(blocks, 1));
-    words
+
+    /// An accepted board, its blocks in any order, with rubbish in block 0 and in every free block.
+    pub fn laid(&self, random: &mut Random, blocks: u64) -> Vec<u64> {
+        let empty = random.pick(&[1, 2, 3, 10]);
+        let largest = self.largest(random);
+        let words = (0..self.block * blocks).map(|_| self.rubbish(random, blocks)).collect();
+        let unused = (1..blocks - 1).collect();
+        let mut maker = Maker { layout: self, random, words, unused, reserve: 0, empty, largest };
+        let pointer_block = maker.take();
+        let leaves: Vec<u64> = (0..self.leaves).map(|_| maker.take()).collect();
+        let share = maker.random.pick(&[0, 1, 2, 4, 6]);
+        maker.reserve = maker.unused.len() * share / 8;
+        for f in 0..FILES {
+            let (root, size) = maker.file();
+            let at = self.pointer(leaves[(f / self.inodes) as usize], 2 * (f % self.inodes)) as usize;
+            (maker.words[at], maker.words[at + 1]) = (root, size);
+        }
+        self.put_top(&mut maker.words, pointer_block, &self.pointers(&leaves));
+        maker.words
+    }
+
+    /// A board of 32 empty files over rubbish, as format leaves it.
+    pub fn bare(&self, random: &mut Random, blocks: u64) -> Vec<u64> {
+        let mut words: Vec<u64> = (0..self.block * blocks).map(|_| random.word()).collect();
+        let leaves: Vec<u64> = (2..2 + self.leaves).collect();
+        for &leaf in &leaves {
+            self.put_block(&mut words, leaf, &[]);
+        }
+        self.put_top(&mut words, 1, &self.pointers(&leaves));
+        words
+    }
 }
 
 // ---- Walks
 
-fn inode_pointers(board: &[u64]) -> &[u64] {
-    let start = (board[board.len() - 8] / 8 * 8) as usize;
-    &board[start..start + 8]
-}
+impl Layout {
+    /// The address of the trailer.
+    pub fn trailer(&self, board: &[u64]) -> usize {
+        board.len() - self.block as usize
+    }
 
-/// The address of a file's root word on an accepted board; the size follows it.
-pub fn inode(board: &[u64], file: u64) -> usize {
-    (inode_pointers(board)[file as usize / 4] / 8 * 8 + 2 * (file % 4)) as usize
-}
+    /// The address of the inode pointer block.
+    pub fn pointer_block(&self, board: &[u64]) -> usize {
+        self.start(board[self.trailer(board)])
+    }
 
-pub fn root_and_size(board: &[u64], file: u64) -> (u64, u64) {
-    let at = inode(board, file);
-    (board[at], board[at + 1])
-}
+    fn inode_pointers<'a>(&self, board: &'a [u64]) -> &'a [u64] {
+        &board[self.pointer_block(board)..][..self.leaves as usize]
+    }
 
-/// The blocks on the path to a byte below the size, from the root's on, as far as they exist.
-pub fn path(board: &[u64], file: u64, byte: u64) -> Vec<u64> {
-    let root = board[inode(board, file)];
-    let mut height = (root % 8) as usize;
-    let mut block = if byte < SPAN[height] { root / 8 } else { 0 };
-    let mut found = Vec::new();
-    while block != 0 {
-        found.push(block);
-        if height == 0 {
-            break;
+    /// The address of a file's root word on an accepted board; the size follows it.
+    pub fn inode(&self, board: &[u64], file: u64) -> usize {
+        let leaf = self.inode_pointers(board)[(file / self.inodes) as usize];
+        self.start(leaf) + 2 * (file % self.inodes) as usize
+    }
+
+    pub fn root_and_size(&self, board: &[u64], file: u64) -> (u64, u64) {
+        let at = self.inode(board, file);
+        (board[at], board[at + 1])
+    }
+
+    /// The blocks on the path to a byte below the size, from the root's on, as far as they exist.
+    pub fn path(&self, board: &[u64], file: u64, byte: u64) -> Vec<u64> {
+        let root = board[self.inode(board, file)];
+        let mut height = self.low_of(root) as usize;
+        let mut block = if byte < self.span(root) { self.block_of(root) } else { 0 };
+        let mut found = Vec::new();
+        while block != 0 {
+            found.push(block);
+            if height == 0 {
+                break;
+            }
+            height -= 1;
+            let index = byte / self.spans[height] % self.block;
+            block = self.block_of(board[self.pointer(block, index) as usize]);
         }
-        height -= 1;
-        block = board[(8 * block + byte / SPAN[height] % 8) as usize] / 8;
+        found
     }
-    found
-}
 
-/// The data block with a byte below the size, or nothing where the byte is in a hole.
-pub fn data_block(board: &[u64], file: u64, byte: u64) -> Option<u64> {
-    let path = path(board, file, byte);
-    let height = board[inode(board, file)] % 8;
-    path.get(height as usize).copied()
-}
-
-/// The addresses of the live pointers of a tree.
-fn live_pointers(board: &[u64], height: u64, block: u64, below: u64, found: &mut Vec<usize>) {
-    if height == 0 || block == 0 {
-        return;
+    /// The data block with a byte below the size, or nothing where the byte is in a hole.
+    pub fn data_block(&self, board: &[u64], file: u64, byte: u64) -> Option<u64> {
+        let path = self.path(board, file, byte);
+        let height = self.low_of(board[self.inode(board, file)]);
+        path.get(height as usize).copied()
     }
-    for j in 0..8 {
-        let start = j * SPAN[height as usize - 1];
-        if start < below {
-            let at = (8 * block + j) as usize;
-            found.push(at);
-            live_pointers(board, height - 1, board[at] / 8, below - start, found);
+
+    /// The addresses of the live pointers of a tree.
+    fn live_pointers(&self, board: &[u64], height: u64, block: u64, below: u64, found: &mut Vec<usize>) {
+        if height == 0 || block == 0 {
+            return;
+        }
+        for j in 0..self.block {
+            let start = j * self.spans[height as usize - 1];
+            if start < below {
+                let at = self.pointer(block, j) as usize;
+                found.push(at);
+                self.live_pointers(board, height - 1, self.block_of(board[at]), below - start, found);
+            }
         }
     }
-}
 
-/// The addresses of all live roots and file pointers of an accepted board.
-fn all_live_pointers(board: &[u64]) -> Vec<usize> {
-    let mut found = Vec::new();
-    for file in 0..32 {
-        let (root, size) = root_and_size(board, file);
-        if size > 0 {
-            found.push(inode(board, file));
-            live_pointers(board, root % 8, root / 8, size, &mut found);
+    /// The addresses of all live roots and file pointers of an accepted board.
+    fn all_live_pointers(&self, board: &[u64]) -> Vec<usize> {
+        let mut found = Vec::new();
+        for file in 0..FILES {
+            let (root, size) = self.root_and_size(board, file);
+            if size > 0 {
+                found.push(self.inode(board, file));
+                self.live_pointers(board, self.low_of(root), self.block_of(root), size, &mut found);
+            }
         }
+        found
     }
-    found
-}
 
-/// The blocks that live roots and file pointers of an accepted board lead to, 0 for a null one.
-pub fn live_blocks(board: &[u64]) -> Vec<u64> {
-    all_live_pointers(board).into_iter().map(|at| board[at] / 8).collect()
-}
-
-/// The free blocks of an accepted board, rising.
-pub fn free_blocks(board: &[u64]) -> Vec<u64> {
-    let blocks = board.len() / 8;
-    let mut used = vec![false; blocks];
-    let leaves = inode_pointers(board).iter().map(|pointer| pointer / 8);
-    let ends = [0, board[board.len() - 8] / 8, blocks as u64 - 1];
-    for block in leaves.chain(ends).chain(live_blocks(board)) {
-        used[block as usize] = true;
+    /// The blocks that live roots and file pointers of an accepted board lead to, 0 for a null one.
+    pub fn live_blocks(&self, board: &[u64]) -> Vec<u64> {
+        self.all_live_pointers(board).into_iter().map(|at| self.block_of(board[at])).collect()
     }
-    (0..blocks as u64).filter(|&block| !used[block as usize]).collect()
 }
 
 // ---- Damage
 
-/// What a pointer may be spoilt to: null, low bits, the trailer, off the board, block 0 with low bits, another block.
-fn spoilt(random: &mut Random, board: &[u64], old: u64) -> u64 {
-    let blocks = board.len() as u64 / 8;
-    match random.below(8) {
-        0 => 0,
-        1 => old ^ (1 + random.below(7)),
-        2 => 8 * (blocks - 1) + old % 8,
-        3 => 8 * (blocks + random.below(3)) + old % 8,
-        4 => (1 << 63) | old,
-        5 => 1 + random.below(7),
-        6 => random.word(),
-        _ => 8 * random.below(blocks) + old % 8,
-    }
-}
-
-fn spoil_size(random: &mut Random, board: &mut [u64]) {
-    let at = inode(board, random.below(32)) + 1;
-    board[at] = random.pick(&[32769, 32768, 40000, 1 << 32, 1 << 63, u64::MAX, 1, 64]);
-}
-
-fn spoil_length(random: &mut Random, board: &mut Vec<u64>) {
-    let end = board.len();
-    let near = [end - 8, end - 1, end + 1, end + 8];
-    let bounds = [0, 1, 8, 119, 120, 127, 128, 136, 8184, 8191, 8192, 8193, 8200];
-    let length = if random.one_in(2) { random.pick(&near) } else { random.pick(&bounds) };
-    board.resize(length, 0);
-}
-
-fn spoil_trailer(random: &mut Random, board: &mut [u64]) {
-    let at = board.len() - 8 + random.below(8) as usize;
-    let step = random.pick(&[1, 2, 8, u64::MAX]);
-    board[at] = if random.one_in(2) { board[at].wrapping_add(step) } else { spoilt(random, board, board[at]) };
-}
-
-fn spoil_pointer(random: &mut Random, board: &mut [u64]) {
-    let live = all_live_pointers(board);
-    let at = match random.below(5) {
-        0 => (board[board.len() - 8] / 8 * 8 + random.below(8)) as usize,
-        1 => random.below(board.len() as u64) as usize,
-        _ if live.is_empty() => return,
-        _ => random.pick(&live),
-    };
-    board[at] = spoilt(random, board, board[at]);
-}
-
-/// Spoils one thing of an accepted board. Some of this leaves it accepted.
-pub fn damage(random: &mut Random, board: &mut Vec<u64>) {
-    match random.below(6) {
-        0 => spoil_trailer(random, board),
-        1 => spoil_size(random, board),
-        2 => spoil_length(random, board),
-        _ => spoil_pointer(random, board),
-    }
-}
-
-/// Leaves the inode root or inode pointers of an accepted board null, with any low bits.
-pub fn null_inodes(random: &mut Random, board: &mut [u64]) {
-    let (trailer, pointers) = (board.len() - 8, (board[board.len() - 8] / 8 * 8) as usize);
-    if random.one_in(3) {
-        board[trailer] = random.below(8);
-        return;
-    }
-    for pointer in &mut board[pointers..pointers + 8] {
-        if random.one_in(2) {
-            *pointer = random.below(8);
+impl Layout {
+    /// What a pointer may be spoilt to: null, low bits, the trailer, off the board, block 0 with low bits, another block.
+    fn spoilt(&self, random: &mut Random, board: &[u64], old: u64) -> u64 {
+        let (blocks, low) = (self.blocks(board), self.low_of(old));
+        match random.below(8) {
+            0 => 0,
+            1 => self.pointer(self.block_of(old), self.low_bits(random)),
+            2 => self.pointer(blocks - 1, low),
+            3 => self.pointer(blocks + random.below(3), low),
+            4 => (1 << 63) | old,
+            5 => self.low_bits(random),
+            6 => random.word(),
+            _ => self.pointer(random.below(blocks), low),
         }
     }
-}
 
-/// So many words of which nothing is known.
-pub fn hostile(random: &mut Random, words: usize) -> Vec<u64> {
-    (0..words).map(|_| rubbish(random, words as u64 / 8 + 1)).collect()
-}
+    fn spoil_size(&self, random: &mut Random, board: &mut [u64]) {
+        let at = self.inode(board, random.below(FILES)) + 1;
+        let (greatest, bytes) = (self.greatest(), self.block_bytes());
+        board[at] = random.pick(&[greatest + 1, greatest, 2 * greatest, 1 << 32, 1 << 63, u64::MAX, 1, bytes]);
+    }
 
-/// A good trailer over words of which nothing else is known.
-pub fn unknown(random: &mut Random, blocks: u64) -> Vec<u64> {
-    let mut words: Vec<u64> =
-        (0..8 * blocks).map(|_| random.pick(&[0, 1, 2, 3]) * 4 * random.below(2 * blocks)).collect();
-    let end = words.len();
-    let pointer_block = 1 + random.below(blocks - 2);
-    words[end - 8..].copy_from_slice(&trailer(blocks, pointer_block));
-    words
+    fn spoil_length(&self, random: &mut Random, board: &mut Vec<u64>) {
+        let (end, block) = (board.len(), self.block as usize);
+        let (low, high) = ((self.fewest * self.block) as usize, (self.most * self.block) as usize);
+        let near = [end - block, end - 1, end + 1, end + block];
+        let few = [0, 1, block, low - block - 1, low - block, low - 1, low, low + block];
+        let many = [high - block, high - 1, high, high + 1, high + block];
+        let length = if random.one_in(2) { random.pick(&near) } else { random.pick(&[&few[..], &many].concat()) };
+        board.resize(length, 0);
+    }
+
+    fn spoil_trailer(&self, random: &mut Random, board: &mut [u64]) {
+        let at = self.trailer(board) + self.index(random) as usize;
+        let step = random.pick(&[1, 2, self.block, u64::MAX]);
+        board[at] = if random.one_in(2) { board[at].wrapping_add(step) } else { self.spoilt(random, board, board[at]) };
+    }
+
+    /// A word of the inode pointer block, the spare ones included, any word, or a live root or pointer.
+    fn spoil_pointer(&self, random: &mut Random, board: &mut [u64]) {
+        let live = self.all_live_pointers(board);
+        let at = match random.below(5) {
+            0 => self.pointer_block(board) + self.index(random) as usize,
+            1 => random.below(board.len() as u64) as usize,
+            _ if live.is_empty() => return,
+            _ => random.pick(&live),
+        };
+        board[at] = self.spoilt(random, board, board[at]);
+    }
+
+    /// Spoils one thing of an accepted board. Some of this leaves it accepted.
+    pub fn damage(&self, random: &mut Random, board: &mut Vec<u64>) {
+        match random.below(6) {
+            0 => self.spoil_trailer(random, board),
+            1 => self.spoil_size(random, board),
+            2 => self.spoil_length(random, board),
+            _ => self.spoil_pointer(random, board),
+        }
+    }
+
+    /// Leaves the inode root or inode pointers of an accepted board null, with any low bits.
+    pub fn null_inodes(&self, random: &mut Random, board: &mut [u64]) {
+        let (trailer, pointers) = (self.trailer(board), self.pointer_block(board));
+        if random.one_in(3) {
+            board[trailer] = self.low_bits(random);
+            return;
+        }
+        for pointer in &mut board[pointers..][..self.leaves as usize] {
+            if random.one_in(2) {
+                *pointer = self.low_bits(random);
+            }
+        }
+    }
+
+    /// So many words of which nothing is known.
+    pub fn hostile(&self, random: &mut Random, words: usize) -> Vec<u64> {
+        let blocks = words as u64 / self.block + 1;
+        (0..words).map(|_| self.rubbish(random, blocks)).collect()
+    }
+
+    /// A good trailer, and an inode pointer block whose spare words are 0, over words of which nothing else is known.
+    pub fn unknown(&self, random: &mut Random, blocks: u64) -> Vec<u64> {
+        let half = self.block / 2;
+        let any = |random: &mut Random| random.pick(&[0, 1, 2, 3]) * half * random.below(2 * blocks);
+        let mut words: Vec<u64> = (0..self.block * blocks).map(|_| any(random)).collect();
+        let pointer_block = 1 + random.below(blocks - 2);
+        let pointers: Vec<u64> = (0..self.leaves).map(|_| any(random)).collect();
+        self.put_top(&mut words, pointer_block, &pointers);
+        words
+    }
 }
 
 pub fn image_of(board: &[u64]) -> Vec<u8> {

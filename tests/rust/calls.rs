@@ -1,10 +1,11 @@
 //! One call of the library beside the same call of docs/src, on equal copies of what it may write to. Both must leave
 //! the same answer and the same words or bytes; nothing else that the library was lent, nor a guard, may change.
 
+use document::Layout;
 use std::fmt::Arguments;
-use support::library;
+use support::library::{self, Library};
 
-/// The calls, and the numbers by which each may refuse.
+/// The calls, and the numbers by which each may refuse. Published boards have those on words alone.
 #[derive(Clone, Copy)]
 pub enum Kind {
     Check,
@@ -41,10 +42,11 @@ type Answer = Result<u64, u64>;
 const MARGIN: usize = 8;
 const GUARD: u8 = 0xA5;
 
-/// How often each kind of call was accepted (at 0) and refused by each number.
-#[derive(Default)]
 pub struct Calls {
-    met: [[u64; 11]; 12],
+    library: &'static Library,
+    layout: &'static Layout,
+    /// How often each kind of call was accepted (at 0) and refused by each number.
+    met: Vec<[u64; 11]>,
 }
 
 /// The call on a copy of the content that stands between guards.
@@ -63,6 +65,12 @@ fn filled(length: usize) -> Vec<u64> {
 }
 
 impl Calls {
+    /// The calls of the library for boards of a layout, those on images among them for the house's.
+    pub fn of(library: &'static Library, layout: &'static Layout, on_images: bool) -> Calls {
+        let kinds = if on_images { KINDS.len() } else { Kind::ImageCheck as usize };
+        Calls { library, layout, met: vec![[0; 11]; kinds] }
+    }
+
     pub fn compared(&self) -> u64 {
         self.met.iter().flatten().sum()
     }
@@ -101,63 +109,74 @@ impl Calls {
     /// A read into a buffer of so many bytes.
     fn same_read<L: Clone + PartialEq>(
         &mut self, kind: Kind, lent: &[L], (file, offset, room): (u64, u64, usize),
-        ours: fn(&[L], u64, u64, &mut [u8]) -> i64, document: fn(&[L], u64, u64, &mut [u8]) -> Answer,
+        ours: impl FnOnce(&[L], &mut [u8]) -> i64, document: impl FnOnce(&mut [u8]) -> Answer,
     ) {
         let said = format_args!("of file {file} at {offset} into {room} bytes");
         let content: Vec<u8> = filled(room).iter().map(|&word| word as u8).collect();
-        let ours = |lent: &[L], out: &mut [u8]| ours(lent, file, offset, out);
-        self.same(kind, said, lent, &content, ours, |out| document(lent, file, offset, out));
+        self.same(kind, said, lent, &content, ours, document);
     }
 
     // ---- On words
 
     pub fn check(&mut self, board: &[u64]) {
+        let (library, layout) = (self.library, self.layout);
         let said = format_args!("of {} words", board.len());
-        self.same_answer(Kind::Check, said, board, library::check, document::check);
+        let ours = |board: &[u64]| library.check(board);
+        self.same_answer(Kind::Check, said, board, ours, |board| document::check(layout, board));
     }
 
     pub fn free_count(&mut self, board: &[u64]) {
+        let (library, layout) = (self.library, self.layout);
         let said = format_args!("of {} words", board.len());
-        self.same_answer(Kind::FreeCount, said, board, library::free_count, document::free_count);
+        let ours = |board: &[u64]| library.free_count(board);
+        self.same_answer(Kind::FreeCount, said, board, ours, |board| document::free_count(layout, board));
     }
 
     pub fn size(&mut self, board: &[u64], file: u64) {
-        let (ours, document) =
-            (|board: &[u64]| library::size(board, file), |board: &[u64]| document::size(board, file));
-        self.same_answer(Kind::Size, format_args!("of file {file}"), board, ours, document);
+        let (library, layout) = (self.library, self.layout);
+        let said = format_args!("of file {file}");
+        let ours = |board: &[u64]| library.size(board, file);
+        self.same_answer(Kind::Size, said, board, ours, |board| document::size(layout, board, file));
     }
 
     pub fn read(&mut self, board: &[u64], file: u64, offset: u64, room: usize) {
-        self.same_read(Kind::Read, board, (file, offset, room), library::read, document::read);
+        let (library, layout) = (self.library, self.layout);
+        let ours = |board: &[u64], out: &mut [u8]| library.read(board, file, offset, out);
+        let document = |out: &mut [u8]| document::read(layout, board, file, offset, out);
+        self.same_read(Kind::Read, board, (file, offset, room), ours, document);
     }
 
     pub fn write(&mut self, board: &[u64], file: u64, offset: u64, bytes: &[u8], room: usize) -> (i64, Vec<u64>) {
+        let (library, layout) = (self.library, self.layout);
         let said = format_args!("of {} bytes to file {file} at {offset}, {room} words of plan", bytes.len());
         let copy = bytes.to_vec();
-        let ours = |board: &[u64], plan: &mut [u64]| library::write(board, file, offset, &copy, plan);
-        let document = |plan: &mut [u64]| document::write(board, file, offset, bytes, plan);
+        let ours = |board: &[u64], plan: &mut [u64]| library.write(board, file, offset, &copy, plan);
+        let document = |plan: &mut [u64]| document::write(layout, board, file, offset, bytes, plan);
         let done = self.same(Kind::Write, said, board, &filled(room), ours, document);
         assert!(bytes == copy, "write stored to the bytes that it was lent");
         done
     }
 
     pub fn set_length(&mut self, board: &[u64], file: u64, length: u64, room: usize) -> (i64, Vec<u64>) {
+        let (library, layout) = (self.library, self.layout);
         let said = format_args!("of file {file} to {length}, {room} words of plan");
-        let ours = |board: &[u64], plan: &mut [u64]| library::set_length(board, file, length, plan);
-        let document = |plan: &mut [u64]| document::set_length(board, file, length, plan);
+        let ours = |board: &[u64], plan: &mut [u64]| library.set_length(board, file, length, plan);
+        let document = |plan: &mut [u64]| document::set_length(layout, board, file, length, plan);
         self.same(Kind::SetLength, said, board, &filled(room), ours, document)
     }
 
     pub fn format(&mut self, board: &[u64], room: usize) -> (i64, Vec<u64>) {
+        let (library, layout) = (self.library, self.layout);
         let said = format_args!("of {} words, {room} words of plan", board.len());
-        let ours = |board: &[u64], plan: &mut [u64]| library::format(board, plan);
-        self.same(Kind::Format, said, board, &filled(room), ours, |plan| document::format(board, plan))
+        let ours = |board: &[u64], plan: &mut [u64]| library.format(board, plan);
+        self.same(Kind::Format, said, board, &filled(room), ours, |plan| document::format(layout, board, plan))
     }
 
     pub fn perform(&mut self, board: &[u64], plan: &[u64], pairs: u64) -> (i64, Vec<u64>) {
+        let (library, layout) = (self.library, self.layout);
         let said = format_args!("of {pairs} pairs of {} words on {} words", plan.len(), board.len());
-        let ours = |plan: &[u64], lent: &mut [u64]| library::perform(lent, plan, pairs);
-        self.same(Kind::Perform, said, plan, board, ours, |lent| document::perform(lent, plan, pairs))
+        let ours = |plan: &[u64], lent: &mut [u64]| library.perform(lent, plan, pairs);
+        self.same(Kind::Perform, said, plan, board, ours, |lent| document::perform(layout, lent, plan, pairs))
     }
 
     // ---- On an image
@@ -174,7 +193,9 @@ impl Calls {
     }
 
     pub fn image_read(&mut self, image: &[u8], file: u64, offset: u64, room: usize) {
-        self.same_read(Kind::ImageRead, image, (file, offset, room), library::image_read, document::image_read);
+        let ours = |image: &[u8], out: &mut [u8]| library::image_read(image, file, offset, out);
+        let document = |out: &mut [u8]| document::image_read(image, file, offset, out);
+        self.same_read(Kind::ImageRead, image, (file, offset, room), ours, document);
     }
 
     /// What the lister printed, beside what it should print.

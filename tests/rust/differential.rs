@@ -1,32 +1,70 @@
 //! The built library held against document 01 in plain Rust (docs/src): every answer, and every word and byte of what a
-//! call is lent, on random boards, damaged ones among them, and with arguments at and around every bound.
+//! call is lent, on random boards, damaged ones among them, and with arguments at and around every bound. On the house's
+//! boards, or with the word `published` on N11's.
 //!
-//!     differential SEED CALLS [ROUND]    rounds of the seed from ROUND on, until CALLS calls have been compared
+//!     differential [published] SEED CALLS [ROUND]    rounds of the seed from ROUND on, until CALLS calls were compared
 
 mod calls;
 mod walks;
 
 use calls::Calls;
+use probes::PUBLISHED;
 use std::io::Write;
 use std::process::{Command, Stdio};
-use support::bands;
-use support::boards::{bare, block_count, damage, image_of, laid, room, unknown, GREATEST};
-use support::library;
-use support::past_end;
+use support::boards::{image_of, room, FILES};
+use support::layout::Layout;
+use support::library::{Library, HOUSE};
 use support::random::Random;
 use support::rounds::Words;
 use support::ways::Ways;
 use walks::Walks;
 
-const BOUNDS: [u64; 8] = [0, 64, 512, 4096, 32768, 1 << 32, 1 << 63, u64::MAX];
 const FAR_FILES: [u64; 7] = [32, 33, 64, 256, 1 << 32, 1 << 63, u64::MAX];
 
-/// How many sweeps through all arguments come before random rounds, and then one among so many rounds.
-const SWEEPS: u64 = 8;
+/// A sweep through all arguments is one among so many rounds.
 const SWEEP_EVERY: u64 = 400;
+
+/// What is held against what, and how much of it.
+struct Trial {
+    library: &'static Library,
+    document: &'static document::Layout,
+    /// Whether boards are also lent as images.
+    on_images: bool,
+    /// How many sweeps come before random rounds, and the sizes of their boards.
+    sweeps: u64,
+    swept: &'static [u64],
+    /// How many damaged copies of its board a round looks at.
+    copies: usize,
+    /// From so many calls on, each answer and each way must have been met.
+    enough: u64,
+}
+
+static ON_HOUSE: Trial = Trial {
+    library: &HOUSE,
+    document: &document::HOUSE,
+    on_images: true,
+    sweeps: 8,
+    swept: &[16, 24, 40, 100],
+    copies: 0,
+    enough: 100_000,
+};
+
+/// A call takes longer on these boards, and one damaged board finds less, as a block has more words.
+static ON_PUBLISHED: Trial = Trial {
+    library: &PUBLISHED,
+    document: &document::PUBLISHED,
+    on_images: false,
+    sweeps: 1,
+    swept: &[16, 17, 24],
+    copies: 12,
+    enough: 10_000,
+};
 
 struct Test {
     random: Random,
+    trial: &'static Trial,
+    library: &'static Library,
+    layout: &'static Layout,
     calls: Calls,
     ways: Ways,
     pool: Vec<u8>,
@@ -34,17 +72,23 @@ struct Test {
 
 // ---- Arguments
 
-/// Numbers at and next to each bound, those past 2^64 - 1 going on from 0.
-fn around_bounds() -> Vec<u64> {
-    BOUNDS.iter().flat_map(|&bound| [bound.wrapping_sub(1), bound, bound.wrapping_add(1)]).collect()
+/// No file, the spans, and numbers far above them.
+fn bounds(layout: &Layout) -> Vec<u64> {
+    [&[0], layout.spans, &[1 << 32, 1 << 63, u64::MAX]].concat()
 }
 
-fn offset(random: &mut Random, size: u64) -> u64 {
+/// Numbers at and next to each bound, those past 2^64 - 1 going on from 0.
+fn around_bounds(layout: &Layout) -> Vec<u64> {
+    let around = |bound: u64| [bound.wrapping_sub(1), bound, bound.wrapping_add(1)];
+    bounds(layout).into_iter().flat_map(around).collect()
+}
+
+fn offset(layout: &Layout, random: &mut Random, size: u64) -> u64 {
     match random.below(11) {
-        0 | 1 => random.pick(&BOUNDS).wrapping_add(random.below(5)).wrapping_sub(2),
+        0 | 1 => random.pick(&bounds(layout)).wrapping_add(random.below(5)).wrapping_sub(2),
         2..=4 => size,
         5 => size.wrapping_add(random.below(5)).wrapping_sub(2),
-        6 => random.below(size + 1) / 64 * 64,
+        6 => random.below(size + 1) / layout.block_bytes() * layout.block_bytes(),
         7 => random.below(size + 1) / 8 * 8,
         8 => size.saturating_sub(1 + random.below(8)),
         _ => random.below(size + 1),
@@ -52,48 +96,67 @@ fn offset(random: &mut Random, size: u64) -> u64 {
 }
 
 /// An offset for a write, past the end more often than for other calls.
-fn write_offset(random: &mut Random, size: u64) -> u64 {
+fn write_offset(layout: &Layout, random: &mut Random, size: u64) -> u64 {
     if random.one_in(4) {
-        past_end::offset(random, size)
+        layout.past_end(random, size)
     } else {
-        offset(random, size)
+        offset(layout, random, size)
+    }
+}
+
+/// The most bytes that a write has here; seldom more than most files have.
+fn most_bytes(layout: &Layout, random: &mut Random) -> u64 {
+    if random.one_in(16) {
+        layout.greatest() + 232
+    } else {
+        layout.usual + 232
     }
 }
 
 /// The count of a write's bytes: small, to a bound of the tree, to the size, inside one word, or any.
-fn count(random: &mut Random, size: u64, offset: u64) -> usize {
+fn count(layout: &Layout, random: &mut Random, size: u64, offset: u64) -> usize {
     // Few free blocks are enough for most writes past the end.
     if offset > size && !random.one_in(4) {
         return random.below(100) as usize;
     }
+    let bytes = layout.block_bytes();
     let wanted = match random.below(10) {
-        0 | 1 => random.pick(&[0, 1, 2, 6, 7, 8, 9, 24, 63, 64, 65]),
-        2 | 3 => random.pick(&BOUNDS[1..5]).wrapping_sub(offset).wrapping_add(random.below(3)).wrapping_sub(1),
+        0 | 1 => random.pick(&[0, 1, 2, 6, 7, 8, 9, 24, bytes - 1, bytes, bytes + 1]),
+        2 | 3 => random.pick(layout.spans).wrapping_sub(offset).wrapping_add(random.below(3)).wrapping_sub(1),
         4 => size.wrapping_sub(offset).wrapping_add(random.below(3)).wrapping_sub(1),
-        5 => random.below(3000),
+        5 => layout.some_blocks(random),
         6 | 7 => 1 + random.below(8 - offset % 8),
         _ => random.below(150),
     };
-    if wanted <= 33000 {
+    if wanted <= most_bytes(layout, random) {
         wanted as usize
     } else {
         random.below(70) as usize
     }
 }
 
-/// Where a write begins and how many bytes it has; one in eight ends where a band of sizes ends or begins.
-fn stretch(random: &mut Random, size: u64) -> (u64, usize) {
-    if random.one_in(8) {
-        return bands::stretch(random);
+/// Where a write to a file of this root and size begins and how many bytes it has.
+fn stretch(layout: &Layout, random: &mut Random, (root, size): (u64, u64)) -> (u64, usize) {
+    layout.growing_stretch(random, (root, size)).unwrap_or_else(|| {
+        let offset = write_offset(layout, random, size);
+        (offset, count(layout, random, size, offset))
+    })
+}
+
+fn length(layout: &Layout, random: &mut Random, size: u64) -> u64 {
+    let (bytes, most) = (layout.block_bytes(), most_bytes(layout, random));
+    match random.below(4) {
+        0 => random.below(11 * bytes),
+        1 => random.below(most),
+        2 => bytes * random.below(layout.usual / bytes + 1),
+        _ => offset(layout, random, size),
     }
-    let offset = write_offset(random, size);
-    (offset, count(random, size, offset))
 }
 
 fn file(random: &mut Random, few: &[u64; 3]) -> u64 {
     match random.below(24) {
         0 => random.pick(&FAR_FILES),
-        1..=5 => random.below(32),
+        1..=5 => random.below(FILES),
         _ => random.pick(few),
     }
 }
@@ -117,13 +180,17 @@ impl Test {
 
     /// The size of the file, or 0 where the board or the file number is refused.
     fn size(&self, board: &[u64], file: u64) -> u64 {
-        library::size(board, file).max(0) as u64
+        self.library.size(board, file).max(0) as u64
+    }
+
+    fn accepted(&self, board: &[u64]) -> bool {
+        self.library.check(board) == 0
     }
 
     fn reading(&mut self, board: &[u64], few: &[u64; 3]) {
         let file = file(&mut self.random, few);
         let size = self.size(board, file);
-        let offset = offset(&mut self.random, size);
+        let offset = offset(self.layout, &mut self.random, size);
         let rest = size.saturating_sub(offset);
         let room = match self.random.below(3) {
             0 => self.random.below(rest + 1),
@@ -135,8 +202,9 @@ impl Test {
         self.calls.read(board, file, offset, room as usize);
     }
 
-    /// A call that plans, with ample room and then with room around what the plan needs. Answers the plan.
-    fn planned(&mut self, board: &[u64], call: impl Fn(&mut Calls, usize) -> (i64, Vec<u64>)) -> Vec<u64> {
+    /// A call that plans, with ample room and then with room around what the plan needs. Answers the plan, or nothing if
+    /// the call is refused.
+    fn planned(&mut self, board: &[u64], call: impl Fn(&mut Calls, usize) -> (i64, Vec<u64>)) -> Option<Vec<u64>> {
         let (pairs, mut plan) = call(&mut self.calls, room(board));
         assert!(pairs != -8, "a plan has more pairs than the board has words");
         let tight = around_need(&mut self.random, pairs);
@@ -147,7 +215,7 @@ impl Test {
                 call(&mut self.calls, length);
             }
         }
-        plan
+        (pairs >= 0).then_some(plan)
     }
 
     /// The plan is performed at times, and at times in part, which leaves a board as a power cut would.
@@ -162,25 +230,25 @@ impl Test {
     fn writing(&mut self, board: &mut Vec<u64>, few: &[u64; 3]) {
         let file = file(&mut self.random, few);
         let size = self.size(board, file);
-        let (offset, count) = stretch(&mut self.random, size);
+        let root_and_size = if size > 0 { self.layout.root_and_size(board, file) } else { (0, 0) };
+        let (offset, count) = stretch(self.layout, &mut self.random, root_and_size);
         let bytes = self.some_bytes(count);
-        let plan = self.planned(board, |calls, room| calls.write(board, file, offset, &bytes, room));
-        self.ways.write(board, file, offset, offset.saturating_add(count as u64), &plan);
-        self.performed(board, &plan);
+        let planned = self.planned(board, |calls, room| calls.write(board, file, offset, &bytes, room));
+        if let Some(plan) = planned {
+            self.ways.write(board, file, offset, offset + count as u64, &plan);
+            self.performed(board, &plan);
+        }
     }
 
     fn lengths(&mut self, board: &mut Vec<u64>, few: &[u64; 3]) {
         let file = file(&mut self.random, few);
         let size = self.size(board, file);
-        let length = match self.random.below(4) {
-            0 => self.random.below(700),
-            1 => self.random.below(32770),
-            2 => 64 * self.random.below(513),
-            _ => offset(&mut self.random, size),
-        };
-        let plan = self.planned(board, |calls, room| calls.set_length(board, file, length, room));
-        self.ways.set_length(board, file, length, &plan);
-        self.performed(board, &plan);
+        let length = length(self.layout, &mut self.random, size);
+        let planned = self.planned(board, |calls, room| calls.set_length(board, file, length, room));
+        if let Some(plan) = planned {
+            self.ways.set_length(board, file, length, &plan);
+            self.performed(board, &plan);
+        }
     }
 
     /// Any pairs, on a copy of the board: addresses on it and off it, barriers with any value, any count.
@@ -202,7 +270,9 @@ impl Test {
     }
 
     fn formatting(&mut self, board: &[u64]) {
-        let room = self.random.pick(&[0, 1, 83, 164, 165, 166, 167, 300]);
+        let pairs = self.layout.format_pairs;
+        let need = 2 * pairs;
+        let room = self.random.pick(&[0, 1, pairs, need - 2, need - 1, need, need + 1, 2 * need]);
         let (pairs, plan) = self.calls.format(board, room);
         if pairs > 0 {
             let some = self.random.below(pairs as u64 + 1);
@@ -223,6 +293,9 @@ impl Test {
 
     /// The forms on an image, and at times the lister, on the board's bytes, some cut off or added.
     fn images(&mut self, board: &[u64], few: &[u64; 3]) {
+        if !self.trial.on_images {
+            return;
+        }
         let mut image = image_of(board);
         if self.random.one_in(4) {
             let length = image.len() as u64 + self.random.below(17);
@@ -232,7 +305,7 @@ impl Test {
         for _ in 0..4 {
             let file = file(&mut self.random, few);
             let size = self.size(board, file);
-            let offset = offset(&mut self.random, size);
+            let offset = offset(self.layout, &mut self.random, size);
             let room = size.saturating_sub(offset) + self.random.below(4);
             self.calls.image_size(&image, file);
             self.calls.image_read(&image, file, offset, room.saturating_sub(2) as usize);
@@ -257,15 +330,15 @@ fn listed(image: &[u8]) -> String {
 // ---- Rounds
 
 /// A board of each kind: laid, bare, unknown, or one of these damaged.
-fn some_board(random: &mut Random) -> Vec<u64> {
-    let blocks = block_count(random);
+fn some_board(layout: &Layout, random: &mut Random) -> Vec<u64> {
+    let blocks = layout.block_count(random);
     let mut board = match random.below(8) {
-        0 => return unknown(random, blocks),
-        1..=4 => laid(random, blocks),
-        _ => bare(random, blocks),
+        0 => return layout.unknown(random, blocks),
+        1..=4 => layout.laid(random, blocks),
+        _ => layout.bare(random, blocks),
     };
     if random.one_in(4) {
-        damage(random, &mut board);
+        layout.damage(random, &mut board);
     }
     board
 }
@@ -273,17 +346,19 @@ fn some_board(random: &mut Random) -> Vec<u64> {
 impl Test {
     /// Every file number with every offset and length at or next to a bound.
     fn sweep(&mut self) {
-        let blocks = self.random.pick(&[16, 24, 40, 100]);
-        let kind = if self.random.one_in(3) { bare } else { laid };
-        let mut board = kind(&mut self.random, blocks);
+        let layout = self.layout;
+        let blocks = self.random.pick(self.trial.swept);
+        let kind = if self.random.one_in(3) { Layout::bare } else { Layout::laid };
+        let mut board = kind(layout, &mut self.random, blocks);
         if self.random.one_in(4) {
-            damage(&mut self.random, &mut board);
+            layout.damage(&mut self.random, &mut board);
         }
         let room = room(&board);
-        for file in (0..32).chain(FAR_FILES) {
+        for file in (0..FILES).chain(FAR_FILES) {
             self.calls.size(&board, file);
-            for offset in around_bounds() {
-                let count = self.random.pick(&[0, 1, 2, 8, 9, 64, 65]);
+            for offset in around_bounds(layout) {
+                let bytes = layout.block_bytes() as usize;
+                let count = self.random.pick(&[0, 1, 2, 8, 9, bytes, bytes + 1]);
                 let bytes = self.some_bytes(count);
                 self.calls.read(&board, file, offset, count);
                 self.calls.write(&board, file, offset, &bytes, room);
@@ -292,17 +367,32 @@ impl Test {
         }
     }
 
+    /// Copies of an accepted board, each damaged.
+    fn damaged_copies(&mut self, board: &[u64], few: &[u64; 3]) {
+        for _ in 0..self.trial.copies {
+            let mut copy = board.to_vec();
+            self.layout.damage(&mut self.random, &mut copy);
+            self.calls.check(&copy);
+            if self.random.one_in(4) {
+                self.one_call(&mut copy, few);
+            }
+        }
+    }
+
     fn round(&mut self) {
-        let mut board = some_board(&mut self.random);
-        let few = [self.random.below(32), self.random.below(32), self.random.below(32)];
+        let mut board = some_board(self.layout, &mut self.random);
+        let few = [self.random.below(FILES), self.random.below(FILES), self.random.below(FILES)];
         // Every call on a refused board has the same answer, so a few are enough.
-        let most = if library::check(&board) == 0 { 40 } else { 3 };
+        let most = if self.accepted(&board) { 40 } else { 3 };
         for _ in 0..2 + self.random.below(most) {
             self.one_call(&mut board, &few);
         }
         self.images(&board, &few);
-        if self.random.one_in(4) && library::check(&board) == 0 {
-            damage(&mut self.random, &mut board);
+        if self.accepted(&board) {
+            self.damaged_copies(&board, &few);
+        }
+        if self.random.one_in(4) && self.accepted(&board) {
+            self.layout.damage(&mut self.random, &mut board);
             self.reading(&board, &few);
             self.images(&board, &few);
         }
@@ -311,44 +401,65 @@ impl Test {
 
 /// N4's bands give document 01's least sufficient heights, and no size lies in two of them.
 fn bands_are_spans() {
-    for size in 0..=GREATEST {
-        let (banded, least) = (document::height_by_bands(size), document::least_height(size));
+    let greatest = document::HOUSE.greatest_size;
+    for size in 0..=greatest {
+        let (banded, least) = (document::height_by_bands(size), document::HOUSE.least_height(size));
         assert!(banded == Some(least), "size {size}: height {banded:?} by the bands, {least} by the spans");
         let bands = document::BANDS.iter().filter(|(first, last)| (first..=last).contains(&&size)).count();
         assert!(bands == 1, "size {size} lies in {bands} bands");
     }
-    assert!(document::height_by_bands(GREATEST + 1).is_none(), "a band above the greatest size");
+    assert!(document::height_by_bands(greatest + 1).is_none(), "a band above the greatest size");
+}
+
+impl Test {
+    fn of(trial: &'static Trial, seed: u64) -> Test {
+        let (library, layout) = (trial.library, trial.library.layout);
+        let mut random = Random::new(seed, u64::MAX);
+        let pool = random.bytes(layout.greatest() as usize + 7232);
+        let calls = Calls::of(library, trial.document, trial.on_images);
+        Test { random, trial, library, layout, calls, ways: Ways::of(library), pool }
+    }
+
+    fn rounds(&mut self, words: &Words, walks: &mut Walks) {
+        for round in words.rounds() {
+            if self.calls.compared() >= words.wanted {
+                break;
+            }
+            if !words.published {
+                // Walks have numbers of their own, so that the other calls are the same with and without them.
+                walks.round(&mut Random::new(words.seed, !round - 1));
+            }
+            self.random = Random::new(words.seed, round);
+            if round < self.trial.sweeps || round % SWEEP_EVERY == 0 {
+                self.sweep();
+            } else {
+                self.round();
+            }
+        }
+    }
 }
 
 fn main() {
     let words = Words::read("differential", 300_000);
-    let random = Random::new(words.seed, u64::MAX);
-    let mut test = Test { random, calls: Calls::default(), ways: Ways::default(), pool: Vec::new() };
-    test.pool = test.random.bytes(40_000);
+    let trial = if words.published { &ON_PUBLISHED } else { &ON_HOUSE };
+    let mut test = Test::of(trial, words.seed);
     let mut walks = Walks::default();
-    for round in words.rounds() {
-        if test.calls.compared() >= words.wanted {
-            break;
-        }
-        // Walks have numbers of their own, so that the other calls are the same with and without them.
-        walks.round(&mut Random::new(words.seed, !round - 1));
-        test.random = Random::new(words.seed, round);
-        if round < SWEEPS || round % SWEEP_EVERY == 0 {
-            test.sweep();
-        } else {
-            test.round();
-        }
-    }
+    test.rounds(&words, &mut walks);
     // What follows belongs to no round.
     drop(std::panic::take_hook());
-    bands_are_spans();
     test.calls.report();
     test.ways.report();
-    walks.report();
-    if words.wanted >= 100_000 {
+    if words.wanted >= trial.enough {
         test.calls.all_met();
         test.ways.all_met();
-        walks.all_met();
+        test.ways.empty_met();
+    }
+    if !words.published {
+        bands_are_spans();
+        walks.report();
+        if words.wanted >= trial.enough {
+            walks.all_met();
+        }
     }
     println!("differential: {} calls, each as document 01 in plain Rust has it", test.calls.compared());
 }

@@ -7,9 +7,10 @@ pub struct Kinds {
 
 impl Kinds {
     /// Of one thing each kind, and whether it is of it; the same kinds each time.
-    pub fn count<const N: usize>(&mut self, kinds: [(&'static str, bool); N]) {
+    pub fn count(&mut self, kinds: impl IntoIterator<Item = (&'static str, bool)>) {
+        let kinds: Vec<_> = kinds.into_iter().collect();
         if self.met.is_empty() {
-            self.met = kinds.map(|(name, _)| (name, 0)).to_vec();
+            self.met = kinds.iter().map(|&(name, _)| (name, 0)).collect();
         }
         for ((_, met), (_, of_kind)) in self.met.iter_mut().zip(kinds) {
             *met += u64::from(of_kind);

@@ -4,6 +4,7 @@ pub mod bands;
 pub mod boards;
 pub mod files;
 pub mod kinds;
+pub mod layout;
 pub mod library;
 pub mod past_end;
 pub mod performed;

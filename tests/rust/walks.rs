@@ -3,8 +3,8 @@
 
 use crate::{offset, some_board, FAR_FILES};
 use document::Place;
-use support::boards::{block_count, hostile, laid, null_inodes, rubbish, GREATEST};
 use support::kinds::Kinds;
+use support::layout::HOUSE;
 use support::library;
 use support::random::Random;
 
@@ -53,19 +53,19 @@ fn any_board(random: &mut Random) -> Vec<u64> {
     match random.below(8) {
         0 => {
             let few = random.below(41);
-            hostile(random, few as usize)
+            HOUSE.hostile(random, few as usize)
         }
         1 => {
-            let words = 8 * block_count(random) + random.below(41);
-            hostile(random, words as usize)
+            let words = 8 * HOUSE.block_count(random) + random.below(41);
+            HOUSE.hostile(random, words as usize)
         }
         2 | 3 => {
-            let blocks = block_count(random);
-            let mut board = laid(random, blocks);
-            null_inodes(random, &mut board);
+            let blocks = HOUSE.block_count(random);
+            let mut board = HOUSE.laid(random, blocks);
+            HOUSE.null_inodes(random, &mut board);
             board
         }
-        _ => some_board(random),
+        _ => some_board(&HOUSE, random),
     }
 }
 
@@ -89,7 +89,7 @@ fn byte(random: &mut Random, seen: &Seen) -> u64 {
         1 => seen.size.wrapping_add(random.below(5)).wrapping_sub(2),
         2..=4 => random.below(seen.span().min(seen.size.saturating_add(100))),
         5 => random.below(seen.span()),
-        _ => offset(random, seen.size.min(1 << 27)),
+        _ => offset(&HOUSE, random, seen.size.min(1 << 27)),
     }
 }
 
@@ -97,7 +97,7 @@ fn byte(random: &mut Random, seen: &Seen) -> u64 {
 fn other_block_0(random: &mut Random, board: &[u64]) -> Vec<u64> {
     let mut other = board.to_vec();
     for word in other.iter_mut().take(8) {
-        *word = rubbish(random, board.len() as u64 / 8 + 1);
+        *word = HOUSE.rubbish(random, board.len() as u64 / 8 + 1);
     }
     other
 }
@@ -139,7 +139,7 @@ impl Walks {
     fn count(&mut self, board: &[u64], file: u64, byte: u64, end: u64) {
         let (words, seen, there) = (board.len() as u64, Seen::of(board, file), file < 32);
         let (lent, begun, rooted) = (there && words >= 16, there && seen.leaf != 0, there && seen.rooted());
-        let refused = library::check(board) != 0;
+        let refused = library::HOUSE.check(board) != 0;
         self.kinds.count([
             ("to a block of an accepted board", end != 0 && !refused),
             ("to a hole of an accepted board", end == 0 && !refused),
@@ -161,7 +161,7 @@ impl Walks {
             ("to a hole in the span, below the size", rooted && end == 0 && byte < seen.span().min(seen.size)),
             ("to a hole in the span, past the size", rooted && end == 0 && seen.size <= byte && byte < seen.span()),
             ("under a root of height 4 to 7, to a block", end != 0 && seen.root % 8 > 3),
-            ("in a file above the greatest size, to a block", end != 0 && seen.size > GREATEST),
+            ("in a file above the greatest size, to a block", end != 0 && seen.size > HOUSE.greatest()),
         ]);
     }
 

@@ -2,100 +2,121 @@
 //! often each was met.
 
 use crate::bands::Bands;
-use crate::boards::{inode, root_and_size, SPAN};
 use crate::kinds::Kinds;
+use crate::library::Library;
 use crate::past_end::PastEnd;
 
-const WAYS: [&str; 7] = [
-    "single word",
-    "tail",
-    "shadow inside the file",
-    "shadow with length",
-    "smaller length",
-    "larger length with hidden stores",
-    "larger length by the size alone",
+/// A write's ways, and whether growth over a block and over a null root can come before each.
+const WRITES: [(&str, [bool; 2]); 6] = [
+    ("single word", [false, false]),
+    ("tail", [true, false]),
+    ("tail of an empty file", [false, false]),
+    ("shadow inside the file, at the root", [true, true]),
+    ("shadow inside the file, deeper", [true, false]),
+    ("shadow with length", [true, true]),
 ];
 
-const TAIL: usize = 1;
-const SHADOW_WITH_LENGTH: usize = 3;
+const EMPTY_TAIL: usize = 2;
+const SHADOW_WITH_LENGTH: usize = 5;
 
-/// Plans met by each way, and how many of them growth came before; those of writes that choose a height; and those of
-/// writes past the end by their kinds.
-#[derive(Default)]
+/// Accepted calls by each way: those of writes without growth, over a block and over a null root; those of writes that
+/// choose a height; and those of writes past the end by their kinds.
 pub struct Ways {
-    met: [(u64, u64); 7],
+    library: &'static Library,
+    writes: [[u64; 3]; 6],
+    lengths: Kinds,
+    empty: Kinds,
     bands: Bands,
     past_end: Kinds,
 }
 
-/// A write's way, by its number of pairs and the address of its last store.
-fn of_write(board: &[u64], file: u64, pairs: usize, last: usize) -> usize {
-    let pointers = (board[board.len() - 8] / 8 * 8) as usize;
-    if last == inode(board, file) + 1 {
-        TAIL
-    } else if (pointers..pointers + 8).contains(&last) {
-        SHADOW_WITH_LENGTH
-    } else if pairs == 1 {
-        0
-    } else {
-        2
-    }
-}
-
 impl Ways {
-    /// Of a write from `offset` to `end`, on the board that was lent; a plan of no pairs counts nowhere.
+    pub fn of(library: &'static Library) -> Ways {
+        let (lengths, empty, past_end) = (Kinds::default(), Kinds::default(), Kinds::default());
+        Ways { library, writes: [[0; 3]; 6], lengths, empty, bands: Bands::of(library.layout), past_end }
+    }
+
+    /// A write's way, by its number of pairs and the address of its last store.
+    fn way(&self, board: &[u64], file: u64, pairs: usize, last: usize) -> usize {
+        let layout = self.library.layout;
+        let (root, pointers) = (layout.inode(board, file), layout.pointer_block(board));
+        let inode_pointers = pointers..pointers + layout.leaves as usize;
+        match last {
+            _ if last == root + 1 && board[last] == 0 => EMPTY_TAIL,
+            _ if last == root + 1 => 1,
+            _ if inode_pointers.contains(&last) => SHADOW_WITH_LENGTH,
+            _ if pairs == 1 => 0,
+            _ if last == root => 3,
+            _ => 4,
+        }
+    }
+
+    /// 0 where the tree needn't grow, 1 where it grows over a block, 2 over a null root.
+    fn growth(&self, board: &[u64], file: u64, end: u64) -> usize {
+        let layout = self.library.layout;
+        let (root, size) = layout.root_and_size(board, file);
+        match layout.block_of(root) {
+            _ if size == 0 || end <= layout.span(root) => 0,
+            0 => 2,
+            _ => 1,
+        }
+    }
+
+    /// Of an accepted write from `offset` to `end`, on the board that was lent.
     pub fn write(&mut self, board: &[u64], file: u64, offset: u64, end: u64, plan: &[u64]) {
+        self.empty.count([("write of no bytes", plan.is_empty()), ("length as it was", false)]);
+        assert!((offset < end) != plan.is_empty(), "a write of no bytes has a plan, or one of some bytes has none");
         if plan.is_empty() {
             return;
         }
-        assert!(offset < end, "a write of no bytes has a plan");
-        let (root, size) = root_and_size(board, file);
-        let way = of_write(board, file, plan.len() / 2, plan[plan.len() - 2] as usize);
-        self.met[way].0 += 1;
-        if size > 0 && end > SPAN[(root % 8) as usize] {
-            self.met[way].1 += 1;
-        }
+        let way = self.way(board, file, plan.len() / 2, plan[plan.len() - 2] as usize);
+        self.writes[way][self.growth(board, file, end)] += 1;
         self.bands.count(board, file, end, plan);
-        if let Some(write) = PastEnd::of(board, file, offset, end) {
-            let expected = if write.into_empty() { TAIL } else { SHADOW_WITH_LENGTH };
-            assert!(way == expected, "a write past the end goes by {}, not by {}", WAYS[way], WAYS[expected]);
+        if let Some(write) = PastEnd::of(self.library, board, file, offset, end) {
+            let expected = if write.into_empty() { EMPTY_TAIL } else { SHADOW_WITH_LENGTH };
+            let (name, wanted) = (WRITES[way].0, WRITES[expected].0);
+            assert!(way == expected, "a write past the end goes by {name}, not by {wanted}");
             write.look(plan);
             write.count(&mut self.past_end);
         }
     }
 
+    /// Of an accepted length change.
     pub fn set_length(&mut self, board: &[u64], file: u64, length: u64, plan: &[u64]) {
-        if !plan.is_empty() {
-            let larger = length > root_and_size(board, file).1;
-            let way = if !larger {
-                4
-            } else if plan.len() > 2 {
-                5
-            } else {
-                6
-            };
-            self.met[way].0 += 1;
-        }
+        let (_, size) = self.library.layout.root_and_size(board, file);
+        self.empty.count([("write of no bytes", false), ("length as it was", plan.is_empty())]);
+        assert!((length == size) == plan.is_empty(), "a length as it was has a plan, or another has none");
+        self.lengths.count([
+            ("smaller length", length < size),
+            ("larger length with hidden stores", length > size && plan.len() > 2),
+            ("larger length by the size alone", length > size && plan.len() == 2),
+        ]);
     }
 
     pub fn report(&self) {
-        for (at, (name, (all, grown))) in WAYS.iter().zip(&self.met).enumerate() {
-            let growth = if at < 4 { format!(", after growth {grown}") } else { String::new() };
-            println!("plans by {name}: {all}{growth}");
+        for ((name, _), [plain, over_block, over_null]) in WRITES.iter().zip(self.writes) {
+            println!("plans by {name}: {plain}, after growth over a block {over_block}, over a null root {over_null}");
         }
+        self.lengths.report("plans by");
+        self.empty.report("empty plans,");
         self.bands.report();
         self.past_end.report("plans of writes past the end,");
     }
 
-    /// Every way must have been met, the three that can follow growth also after it, every end of a band, and every kind past
-    /// the end.
+    /// Every way must have been met, those that can follow growth also after it and no other, every end of a band, and
+    /// every kind past the end.
     pub fn all_met(&self) {
-        for (name, &(all, _)) in WAYS.iter().zip(&self.met) {
-            assert!(all > 0, "no plan by {name}");
+        for ((name, after), [plain, grown @ ..]) in WRITES.iter().zip(self.writes) {
+            assert!(plain > 0, "no plan by {name}");
+            assert!(grown.map(|met| met > 0) == *after, "plans by {name} after growth over a block or a null root");
         }
-        assert!(self.met[1..=3].iter().all(|&(_, grown)| grown > 0), "a way was not met after growth");
-        assert!(self.met[0].1 == 0, "growth before a single word");
+        self.lengths.all_met("plan by");
         self.bands.all_met();
         self.past_end.all_met("plan of a write past the end,");
+    }
+
+    /// Both calls must have had empty plans.
+    pub fn empty_met(&self) {
+        self.empty.all_met("empty plan,");
     }
 }

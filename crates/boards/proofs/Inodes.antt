@@ -8,7 +8,8 @@ use lib.ListN.{getD}
 use Rattle.model.specs.declared.Kind.{Kind}
 use Rattle.model.specs.Layout.{Layout, layoutOf, files}
 use Rattle.model.specs.Board.{trailer, inodeBlock, sizeAddress, root, size}
-use Rattle.kinds.proofs.Figures.{fits, files-32, block-room}
+use Rattle.model.proofs.Formatted.{fits}
+use Rattle.kinds.proofs.Figures.{files-32, block-room}
 use Rattle.boards.specs.Inodes.{AddressOf, InodeOf}
 
 -- the inodes of a leaf have addresses

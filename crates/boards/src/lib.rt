@@ -1,7 +1,8 @@
-// A board of some kind: where its words stand, a file's inode among them, and whether its word count and its trailer are as they must be.
+// A board of some kind: where its words stand, a file's inode among them, and whether its word count, its trailer and its spare inode pointers are as they must be.
 use kinds::bits;
 use kinds::block_in;
 use kinds::inode_in;
+use kinds::leaf_count;
 use kinds::leaf_in;
 use kinds::low_in;
 use kinds::mark;
@@ -18,7 +19,7 @@ ghost use lib.ListN.{getD};
 ghost use Rattle.model.specs.Layout.{layoutOf};
 ghost use Rattle.model.specs.Tree.{link};
 ghost use Rattle.model.specs.Board.{trailerWord, blockCount, trailer, inodePointer, rootAddress, root, size, linkedLeaf, linkedWord, wordCountSound, trailerSound};
-ghost use Rattle.boards.specs.Trailers.{trailerWordsSound};
+ghost use Rattle.boards.specs.Trailers.{trailerWordsSound, sparesSound};
 ghost use Rattle.boards.specs.Inodes.{AddressOf, InodeOf};
 
 // The number of blocks.
@@ -184,4 +185,20 @@ pub fn trailer_sound(kind: Kind, board: &[u64]) -> bool
         return false;
     }
     trailer_words_sound(kind, board)
+}
+
+// Whether the words of the inode pointer block past the inode pointers are 0. The house's block has none.
+pub fn spares_sound(kind: Kind, board: &[u64]) -> bool
+    ensures { λ r. ⌜ r ≡ sparesSound (layoutOf kind) (now (board .entry)) ⌝ }
+{
+    let first = leaf_count(kind);
+    let n = words_in(kind) - first;
+    let mut j = 0;
+    while j < n {
+        if inode_pointer(kind, board, first + j) != 0 {
+            return false;
+        }
+        j += 1;
+    }
+    true
 }

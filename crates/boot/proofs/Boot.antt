@@ -12,7 +12,7 @@ use Rattle.model.specs.declared.Fault.{Fault}
 use Rattle.model.specs.declared.Fault.the-variants.{WordCount, Trailer, Damaged, FileNumber, End, FreeBlocks, PairCount, PlanLength, Address}
 use Rattle.model.specs.Lists.{tabulate, every, all, pickFrom, member, distinct}
 use Rattle.model.specs.Layout.{Layout, Fits, files}
-use Rattle.model.specs.Board.{trailerWord, greatest, blockCount, inodeBlock, leaf, size, contents, fileBlocks, liveBlocks, free, inRange, wordCountSound, trailerSound, leafSound, fileSound, treesSound, accepted}
+use Rattle.model.specs.Board.{trailerWord, greatest, blockCount, inodeBlock, leaf, size, contents, fileBlocks, liveBlocks, free, inRange, wordCountSound, trailerSound, leafSound, spareSound, inodesSound, fileSound, treesSound, accepted}
 use Rattle.model.specs.Store.{Store, store, isBarrier, paired, laid}
 use Rattle.model.specs.Plan.{Plan, plan, step, pairs}
 use Rattle.model.specs.Fresh.{stored}
@@ -117,6 +117,11 @@ module _ (g : Layout) (fit : Fits g) {b b′ : List ℕ} (same : Alike (g .words
   leaf-sound-alike there inode l =
       λ t. eqb (pointer-alike g same there inode l t % g .words) 0 && range-alike (leaf g b l) (leaf g b′ l) (leaf-alike g same there inode l) t
 
+  inodes-sound-alike : 0 < blockCount g b - 1 → 0 < inodeBlock g b → inodesSound g b ≡ inodesSound g b′
+  unfolding inodesSound spareSound
+  inodes-sound-alike there inode =
+      λ t. every (g .leaves) (λ j. leaf-sound-alike there inode j t) && every (g .words - g .leaves) (λ j. eqb (pointer-alike g same there inode (g .leaves + j) t) 0)
+
   live-alike : Rooted g b → liveBlocks g b ≡ liveBlocks g b′
   unfolding liveBlocks
   live-alike r = λ t. inode-alike g same (r .trailer-there) t ∷ (tabulate (g .leaves) (λ l. leaf-alike g same (r .trailer-there) (r .inode-there) l t)
@@ -125,13 +130,13 @@ module _ (g : Layout) (fit : Fits g) {b b′ : List ℕ} (same : Alike (g .words
   trees-sound-alike : 0 < blockCount g b - 1 → 0 < inodeBlock g b → treesSound g b ≡ treesSound g b′
   unfolding treesSound
   trees-sound-alike there inode =
-      let l : Bool = every (g .leaves) (leafSound g b) in
-      let l′ : Bool = every (g .leaves) (leafSound g b′) in
+      let l : Bool = inodesSound g b in
+      let l′ : Bool = inodesSound g b′ in
       let f : Bool = every (files g) (fileSound g b) in
       let f′ : Bool = every (files g) (fileSound g b′) in
       let found-by : l ≡ true → Rooted g b = λ e. record { trailer-there = there; inode-there = inode; leaves-there = leaves-range g b e } in
       and-alike (l && f) (l′ && f′) (distinct (liveBlocks g b)) (distinct (liveBlocks g b′))
-      (and-alike l l′ f f′ (λ t. every (g .leaves) (λ j. leaf-sound-alike there inode j t))
+      (and-alike l l′ f f′ (inodes-sound-alike there inode)
       (λ e. every-cong (files g) (fileSound g b) (fileSound g b′) (λ j u. file-sound-alike g same (file-found g fit b (found-by e) j u))))
       (λ e t. distinct (live-alike (found-by (true-left l f e)) t))
 

@@ -1,5 +1,5 @@
 // The calls that change a file: write and length change. Each reads the board and writes a plan; it stores nothing on the board. A plan is first worked
-// out on an empty part of the slice, for refusals 7 and 8, and then laid.
+// out on an empty part of the slice, for refusals 7 and 8, and then laid. Those named `published_` are of boards with the published block.
 use boards::last;
 use kinds::top_size;
 use model::Answer;
@@ -11,7 +11,7 @@ use planning::plan_write;
 use surveying::check_file;
 use surveying::list_free;
 use surveying::survey;
-ghost use Rattle.model.specs.Layout.{house, layoutOf};
+ghost use Rattle.model.specs.Layout.{house, published, layoutOf};
 ghost use Rattle.model.specs.Calls.{write, setLength};
 ghost use Rattle.kinds.specs.Figures.{Bits};
 ghost use Rattle.plans.specs.Laying.{PlanResult};
@@ -95,6 +95,30 @@ pub fn write(board: &[u64], file: u64, offset: u64, bytes: &[u8], plan: &mut [u6
     write_kind(Kind::House, 3, board, file, offset, bytes, plan, &mut pages)
 }
 
+// Write on a published board: plans `bytes` at `offset` of a file. Answers the pair count, or refused 1, 2, 3, 4, 6, 7, 8.
+pub fn published_write(
+    board: &[u64],
+    file: u64,
+    offset: u64,
+    bytes: &[u8],
+    plan: &mut [u64],
+) -> Answer
+    ensures { λ r. ⌜ PlanResult (write published (now (board .entry)) file offset (now (bytes .entry)) (now (plan .entry))) r (now (plan .exit)) ⌝ }
+{
+    // A page for the one level of a tree of height 1.
+    let mut pages = [0u64; 512];
+    write_kind(
+        Kind::Published,
+        9,
+        board,
+        file,
+        offset,
+        bytes,
+        plan,
+        &mut pages,
+    )
+}
+
 // Length change on a board of some kind.
 fn set_length_kind(
     kind: Kind,
@@ -128,4 +152,11 @@ pub fn set_length(board: &[u64], file: u64, length: u64, plan: &mut [u64]) -> An
     ensures { λ r. ⌜ PlanResult (setLength house (now (board .entry)) file length (now (plan .entry))) r (now (plan .exit)) ⌝ }
 {
     set_length_kind(Kind::House, 3, board, file, length, plan)
+}
+
+// Length change on a published board: plans `length` as a file's size. Answers the pair count, or refused 1, 2, 3, 4, 6, 8.
+pub fn published_set_length(board: &[u64], file: u64, length: u64, plan: &mut [u64]) -> Answer
+    ensures { λ r. ⌜ PlanResult (setLength published (now (board .entry)) file length (now (plan .entry))) r (now (plan .exit)) ⌝ }
+{
+    set_length_kind(Kind::Published, 9, board, file, length, plan)
 }

@@ -22,7 +22,8 @@ use Rattle.model.specs.Answers.{answered}
 use Rattle.model.specs.Calls.{wordCountFault, format}
 use Rattle.model.proofs.Perform.{length-tabulate, pageStore, length-stored}
 use Rattle.model.proofs.Formatted.{clears, commits, trailerStore, pages, filling, length-pages, format-epochs, format-pairs}
-use Rattle.kinds.proofs.Figures.{fits, few-words, block-room}
+use Rattle.model.proofs.Formatted.{fits}
+use Rattle.kinds.proofs.Figures.{few-words, block-room}
 use Rattle.plans.specs.Laying.{blockStores, Laid, PlanResult}
 use Rattle.plans.proofs.Laying as Laying
 use Rattle.plans.proofs.Onto.{stored-append, stored-one}

@@ -17,7 +17,7 @@ ghost use mathlib.Core.Path.{_≡_};
 ghost use mathlib.Core.List.{[], _∷_};
 ghost use Prim.Native.Nat.{_+_, _*_};
 ghost use lib.ListN.{replicate};
-ghost use Rattle.model.specs.Layout.{house, layoutOf};
+ghost use Rattle.model.specs.Layout.{house, published, layoutOf};
 ghost use Rattle.model.specs.Store.{laid};
 ghost use Rattle.model.specs.Plan.{pairs};
 ghost use Rattle.model.specs.Fresh.{stored};
@@ -121,4 +121,11 @@ pub fn format(board: &[u64], plan: &mut [u64]) -> Answer
     ensures { λ r. ⌜ PlanResult (format house (now (board .entry)) (now (plan .entry))) r (now (plan .exit)) ⌝ }
 {
     format_kind(Kind::House, board, plan)
+}
+
+// Format of a published board: plans 32 empty files. Answers the pair count, or refused 1, 8.
+pub fn published_format(board: &[u64], plan: &mut [u64]) -> Answer
+    ensures { λ r. ⌜ PlanResult (format published (now (board .entry)) (now (plan .entry))) r (now (plan .exit)) ⌝ }
+{
+    format_kind(Kind::Published, board, plan)
 }

@@ -7,7 +7,7 @@ ghost use Rattle.model.specs.Layout.{house};
 ghost use Rattle.model.specs.Board.{walkTo};
 ghost use Rattle.model.specs.Answers.{signed, ended};
 ghost use Rattle.model.specs.Calls.{checkAnswer, freeCountAnswer, sizeAnswer, write, setLength, format};
-ghost use Rattle.hosts.specs.Results.{WordsRead, WordsPlan, WordsPerform};
+ghost use Rattle.forms.specs.Results.{WordsRead, WordsPlan, WordsPerform};
 
 // Check: 0, or -1, -2, -3.
 #[no_mangle]
@@ -41,7 +41,7 @@ pub extern "C" fn montebeech_words_read(
     offset: u64,
     out: &mut [u8],
 ) -> i64
-    ensures { λ r. ⌜ WordsRead (now (board .entry)) file offset (now (out .entry)) r (now (out .exit)) ⌝ }
+    ensures { λ r. ⌜ WordsRead house (now (board .entry)) file offset (now (out .entry)) r (now (out .exit)) ⌝ }
 {
     signed(reading::read(board, file, offset, out))
 }
@@ -96,7 +96,7 @@ pub extern "C" fn montebeech_words_format(board: &[u64], plan: &mut [u64]) -> i6
 // Perform: the first `pairs` pairs of a plan; answers their number, or -1, -9, -10.
 #[no_mangle]
 pub extern "C" fn montebeech_words_perform(board: &mut [u64], plan: &[u64], pairs: u64) -> i64
-    ensures { λ r. ⌜ WordsPerform (now (board .entry)) (now (plan .entry)) pairs r (now (board .exit)) ⌝ }
+    ensures { λ r. ⌜ WordsPerform house (now (board .entry)) (now (plan .entry)) pairs r (now (board .exit)) ⌝ }
 {
     signed(performing::perform(board, plan, pairs))
 }

@@ -4,26 +4,13 @@ use Prim.Native.Nat.{ℕ, _+_, _*_, _/_, _%_, _^_, _≤_, _<_}
 use native.Mathlib.Omega.{arith}
 use Rattle.model.specs.declared.Kind.{Kind}
 use Rattle.model.specs.declared.Kind.the-variants.{House, Published}
-use Rattle.model.specs.Layout.{layoutOf, files, Fits}
+use Rattle.model.specs.Layout.{layoutOf, files}
 use Rattle.model.specs.Tree.{span}
 use Rattle.model.specs.Board.{greatest}
 use Rattle.model.proofs.Spans.{span-mono}
-use Rattle.model.proofs.Formatted.{house-fits}
+use Rattle.model.proofs.Formatted.{fits}
 use Rattle.trees.specs.Trees.{Reach}
 use Rattle.kinds.specs.Figures.{Bits}
-
--- the laws hold of its boards
-pub fits : (k : Kind) → Fits (layoutOf k)
-fits House = house-fits
-fits Published = record {
-  trailer-fits = omega arith;
-  leaves-fit = omega arith;
-  inodes-fit = omega arith;
-  inodes-some = omega arith;
-  heights-fit = omega arith;
-  format-fits = omega arith;
-  addresses-fit = omega arith;
-}
 
 -- a block has words
 pub words-pos : (k : Kind) → 0 < layoutOf k .words

@@ -11,7 +11,7 @@ use lib.Dec.{T, leb, ltb, eqb, leb→le, ltb→lt, lt→ltb, eqb→eq}
 use Rattle.model.specs.Lists.{every, distinct, occ}
 use Rattle.model.specs.Layout.{Layout, Fits, files}
 use Rattle.model.specs.Tree.{sound}
-use Rattle.model.specs.Board.{rootSound, trailerWord, greatest, blockCount, trailer, inodeBlock, inodePointer, leaf, rootHeight, rootBlock, root, size, liveBlocks, inRange, wordCountSound, trailerSound, leafSound, fileSound, treesSound, accepted}
+use Rattle.model.specs.Board.{rootSound, trailerWord, greatest, blockCount, trailer, inodeBlock, inodePointer, leaf, rootHeight, rootBlock, root, size, liveBlocks, inRange, wordCountSound, trailerSound, leafSound, spareSound, inodesSound, fileSound, treesSound, accepted}
 use Rattle.model.proofs.Cases.{split, and-left, and-right, and-both, every-of, every-all}
 use Rattle.model.proofs.Counting.{distinct-occ, occ-distinct}
 use Rattle.model.proofs.Perform.{block-on}
@@ -55,12 +55,16 @@ pub record Accepted (g : Layout) (b : List ℕ) : Type 0 where
   pub words : T (wordCountSound g b)
   pub trailers : T (trailerSound g b)
   pub leaves : (l : ℕ) → l < g .leaves → T (leafSound g b l)
+  pub spares : (j : ℕ) → j < g .words - g .leaves → T (spareSound g b j)
   pub files-sound : (f : ℕ) → f < files g → T (fileSound g b f)
   pub once : (q : ℕ) → occ q (liveBlocks g b) ≤ 1
 
 module _ (g : Layout) (b : List ℕ) where
   abbrev L : Bool
   L = every (g .leaves) (leafSound g b)
+
+  abbrev S : Bool
+  S = every (g .words - g .leaves) (spareSound g b)
 
   abbrev F : Bool
   F = every (files g) (fileSound g b)
@@ -69,22 +73,28 @@ module _ (g : Layout) (b : List ℕ) where
   D = distinct (liveBlocks g b)
 
   pub accepted-parts : T (accepted g b) → Accepted g b
-  unfolding accepted treesSound
+  unfolding accepted treesSound inodesSound
   accepted-parts t =
-      let first : T (wordCountSound g b && trailerSound g b) = and-left (wordCountSound g b && trailerSound g b) (L && F && D) t in
-      let trees : T (L && F && D) = and-right (wordCountSound g b && trailerSound g b) (L && F && D) t in
+      let first : T (wordCountSound g b && trailerSound g b) = and-left (wordCountSound g b && trailerSound g b) (L && S && F && D) t in
+      let trees : T (L && S && F && D) = and-right (wordCountSound g b && trailerSound g b) (L && S && F && D) t in
+      let inodes : T (L && S) = and-left (L && S) F (and-left (L && S && F) D trees) in
       record {
         words = and-left (wordCountSound g b) (trailerSound g b) first;
         trailers = and-right (wordCountSound g b) (trailerSound g b) first;
-        leaves = every-of (g .leaves) (leafSound g b) (and-left L F (and-left (L && F) D trees));
-        files-sound = every-of (files g) (fileSound g b) (and-right L F (and-left (L && F) D trees));
-        once = distinct-occ (liveBlocks g b) (and-right (L && F) D trees);
+        leaves = every-of (g .leaves) (leafSound g b) (and-left L S inodes);
+        spares = every-of (g .words - g .leaves) (spareSound g b) (and-right L S inodes);
+        files-sound = every-of (files g) (fileSound g b) (and-right (L && S) F (and-left (L && S && F) D trees));
+        once = distinct-occ (liveBlocks g b) (and-right (L && S && F) D trees);
       }
 
   pub parts-accepted : Accepted g b → T (accepted g b)
-  unfolding accepted treesSound
-  parts-accepted a = and-both (wordCountSound g b && trailerSound g b) (L && F && D) (and-both (wordCountSound g b) (trailerSound g b) (a .words) (a .trailers))
-      (and-both (L && F) D (and-both L F (every-all (g .leaves) (leafSound g b) (a .leaves)) (every-all (files g) (fileSound g b) (a .files-sound))) (occ-distinct (liveBlocks g b) (a .once)))
+  unfolding accepted treesSound inodesSound
+  parts-accepted a =
+      let leaves : T L = every-all (g .leaves) (leafSound g b) (a .leaves) in
+      let spares : T S = every-all (g .words - g .leaves) (spareSound g b) (a .spares) in
+      let all-files : T F = every-all (files g) (fileSound g b) (a .files-sound) in
+      and-both (wordCountSound g b && trailerSound g b) (L && S && F && D) (and-both (wordCountSound g b) (trailerSound g b) (a .words) (a .trailers))
+      (and-both (L && S && F) D (and-both (L && S) F (and-both L S leaves spares) all-files) (occ-distinct (liveBlocks g b) (a .once)))
 
 -- ---- what they say of blocks and files
 
@@ -123,8 +133,9 @@ module _ (g : Layout) (b : List ℕ) where
   unfolding leafSound
   leaf-range l t = ranged g b (leaf g b l) (and-right (eqb (inodePointer g b l % g .words) 0) (inRange g b (leaf g b l)) t)
 
-  pub leaves-range : every (g .leaves) (leafSound g b) ≡ true → (l : ℕ) → l < g .leaves → Ranged g b (leaf g b l)
-  leaves-range e l u = leaf-range l (every-of (g .leaves) (leafSound g b) (rw e tt) l u)
+  pub leaves-range : inodesSound g b ≡ true → (l : ℕ) → l < g .leaves → Ranged g b (leaf g b l)
+  unfolding inodesSound
+  leaves-range e l u = leaf-range l (every-of (g .leaves) (leafSound g b) (and-left (every (g .leaves) (leafSound g b)) (every (g .words - g .leaves) (spareSound g b)) (rw e tt)) l u)
 
 -- f is a file of an accepted board
 pub record FileOn (g : Layout) (b : List ℕ) (f : ℕ) : Type 0 where

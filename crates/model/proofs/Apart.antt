@@ -132,13 +132,13 @@ module _ {g : Layout} {b : List ℕ} {f : ℕ} (on : FileOn g b f) where
     unfolding trailer
     spot-trailer j l = other-block (blockCount g b - 1) j l (λ x. omega (arith, spot-ranged a s .1)) ∙ ap (λ (x : ℕ). cell (g .words) b₂ (x - 1) j) (count-kept g b b₂ len)
 
-    pub spot-pointer : (l : ℕ) → l < g .leaves → inodePointer g b l ≡ inodePointer g b₂ l
+    pub spot-pointer : (l : ℕ) → l < g .words → inodePointer g b l ≡ inodePointer g b₂ l
     unfolding inodePointer inodeBlock
-    spot-pointer l u = other-block (inodeBlock g b) l (omega (arith, fit .leaves-fit)) (spot-not-inode a s) ∙ ap (λ (x : ℕ). cell (g .words) b₂ (x / g .words) l) (spot-trailer 0 pos)
+    spot-pointer l u = other-block (inodeBlock g b) l u (spot-not-inode a s) ∙ ap (λ (x : ℕ). cell (g .words) b₂ (x / g .words) l) (spot-trailer 0 pos)
 
     pub spot-leaf : (l : ℕ) → l < g .leaves → leaf g b l ≡ leaf g b₂ l
     unfolding leaf
-    spot-leaf l u = ap (λ (x : ℕ). x / g .words) (spot-pointer l u)
+    spot-leaf l u = ap (λ (x : ℕ). x / g .words) (spot-pointer l (omega (arith, fit .leaves-fit)))
 
     pub spot-address : (i : ℕ) → i < files g → rootAddress g b i ≡ rootAddress g b₂ i
     unfolding rootAddress

@@ -10,7 +10,7 @@ use lib.Dec.{T, leb, le→leb}
 use Rattle.model.specs.Lists.{tabulate, sum, one, occ}
 use Rattle.model.specs.Layout.{Layout, Fits, files}
 use Rattle.model.specs.Tree.{seen, span, blocks, sound}
-use Rattle.model.specs.Board.{rootBlocks, rootSound, greatest, blockCount, inodeBlock, leaf, rootHeight, rootBlock, root, size, fileWalk, contents, walkTo, fileBlocks, liveBlocks, trailerSound, leafSound, fileSound, accepted}
+use Rattle.model.specs.Board.{rootBlocks, rootSound, greatest, blockCount, inodeBlock, leaf, rootHeight, rootBlock, root, size, fileWalk, contents, walkTo, fileBlocks, liveBlocks, trailerSound, leafSound, spareSound, fileSound, accepted}
 use Rattle.model.specs.Fresh.{splice}
 use Rattle.model.proofs.Cases.{split, decide, and-both, tabulate-cong}
 use Rattle.model.proofs.Sums.{sum-cong, sum-add, only, only-same, only-other, sum-only, sum-only-at}
@@ -37,6 +37,7 @@ pub record Commit (g : Layout) (b b₂ : List ℕ) (wanted : ℕ → List ℕ) (
   pub trailers : T (trailerSound g b₂)
   pub inode : Moved (inodeBlock g b) (inodeBlock g b₂) above lessAbove
   pub leaves : (l : ℕ) → l < g .leaves → T (leafSound g b₂ l)
+  pub spares : (j : ℕ) → j < g .words - g .leaves → T (spareSound g b₂ j)
   pub leaves-moved : (l : ℕ) → l < g .leaves → Moved (leaf g b l) (leaf g b₂ l) (beside l) (lessBeside l)
   pub all-files : (f : ℕ) → f < files g → FileCommit g b b₂ f (wanted f) (within f) (lessWithin f)
   pub spare : (q : ℕ) → occ q (liveBlocks g b) + above q + sum (g .leaves) (λ l. beside l q) + sum (files g) (λ f. within f q) ≤ 1
@@ -64,6 +65,7 @@ module _ (g : Layout) (b b₂ : List ℕ) where
     words = rw (← (words-kept g b b₂ (c .lengths))) (accepted-parts g b t .words);
     trailers = c .trailers;
     leaves = c .leaves;
+    spares = c .spares;
     files-sound = λ f u. c .all-files f u .sound;
     once = λ q. omega (arith, c .spare q, commit-counts c q);
   })
@@ -193,6 +195,7 @@ pub record OneFile (g : Layout) (b b₂ : List ℕ) (f : ℕ) (wanted : List ℕ
   pub trailers : T (trailerSound g b₂)
   pub inode : inodeBlock g b ≡ inodeBlock g b₂
   pub leaves : (l : ℕ) → l < g .leaves → T (leafSound g b₂ l)
+  pub spares : (j : ℕ) → j < g .words - g .leaves → T (spareSound g b₂ j)
   pub leaves-stay : (l : ℕ) → l < g .leaves → l ≢ f / g .inodes → leaf g b l ≡ leaf g b₂ l
   pub leaf-moved : Moved (leaf g b (f / g .inodes)) (leaf g b₂ (f / g .inodes)) beside lessBeside
   pub others : Others g b b₂ f
@@ -238,6 +241,7 @@ module _ {g : Layout} {b b₂ : List ℕ} {f : ℕ} (on : FileOn g b f) {wanted 
     trailers = c .trailers;
     inode = λ q. omega (arith, ap (one q) (c .inode));
     leaves = c .leaves;
+    spares = c .spares;
     leaves-moved = λ l u q. elim (decide l (f / g .inodes)) [
       | inl e ↦ rw e (omega (arith, c .leaf-moved q, only-same (f / g .inodes) (beside q), only-same (f / g .inodes) (lessBeside q)))
       | inr d ↦ omega (arith, ap (one q) (c .leaves-stay l u d), only-other l (f / g .inodes) (beside q) d, only-other l (f / g .inodes) (lessBeside q) d)

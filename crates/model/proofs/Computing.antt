@@ -3,7 +3,7 @@ use Rattle.model.specs.Lists.{tabulate, joined, sum, every, some, all, c
 use Rattle.model.specs.Words.{byteOf, wordOf, wordsOf}
 use Rattle.model.specs.Layout.{files}
 use Rattle.model.specs.Tree.{live, seen, ending, span, least, aligned, cell, link, walk, shown, blocks, dataBlocks, sound}
-use Rattle.model.specs.Board.{rootWalk, rootBlocks, rootSound, trailerWord, greatest, blockCount, trailer, inodeBlock, inodePointer, leaf, rootAddress, sizeAddress, root, size, fileWalk, contents, linkedLeaf, linkedWord, walkTo, fileBlocks, fileData, liveBlocks, free, inRange, wordCountSound, trailerSound, leafSound, fileSound, treesSound, accepted}
+use Rattle.model.specs.Board.{rootWalk, rootBlocks, rootSound, trailerWord, greatest, blockCount, trailer, inodeBlock, inodePointer, leaf, rootAddress, sizeAddress, root, size, fileWalk, contents, linkedLeaf, linkedWord, walkTo, fileBlocks, fileData, liveBlocks, free, inRange, wordCountSound, trailerSound, leafSound, spareSound, inodesSound, fileSound, treesSound, accepted}
 use Rattle.model.specs.Store.{store, barrier, isBarrier, performed, stores, opening, epochs, fenced, flat, paired, laid}
 use Rattle.model.specs.Hidden.{keepsBytes, hiddenUnder, hiddenInFile, hidden}
 use Rattle.model.specs.Plan.{step, stepEpochs, planEpochs, plan, pairs, afterwards}
@@ -23,7 +23,7 @@ unfolding tabulate joined sum every some all consIf filter concat pickFrom membe
     byteOf wordOf wordsOf
     files
     live seen ending span least aligned cell link walk shown blocks dataBlocks sound
-    rootWalk rootBlocks rootSound trailerWord greatest blockCount trailer inodeBlock inodePointer leaf rootAddress sizeAddress root size fileWalk contents linkedLeaf linkedWord walkTo fileBlocks fileData liveBlocks free inRange wordCountSound trailerSound leafSound fileSound treesSound accepted
+    rootWalk rootBlocks rootSound trailerWord greatest blockCount trailer inodeBlock inodePointer leaf rootAddress sizeAddress root size fileWalk contents linkedLeaf linkedWord walkTo fileBlocks fileData liveBlocks free inRange wordCountSound trailerSound leafSound spareSound inodesSound fileSound treesSound accepted
     store barrier isBarrier performed stores opening epochs fenced flat paired laid
     keepsBytes hiddenUnder hiddenInFile hidden
     step stepEpochs planEpochs plan pairs afterwards

@@ -9,11 +9,13 @@ use native.Mathlib.Nat.{add-assoc, mul-add, mul-one, mul-suc, mul-div-right, mul
 use lib.ListN.{length, getD, set, length-set, length-append, length-replicate, getD-replicate}
 use lib.Seq.{getD-set-same, getD-set-other}
 use lib.Dec.{T, eqb, eqb-refl, lit≤, lit<}
-use borrow.Author.Tests.{le-leb, lt-ltb}
+use borrow.Author.Tests.{le-leb, lt-ltb, le-ltb}
 use Rattle.model.specs.Lists.{tabulate, every, concat, occ}
-use Rattle.model.specs.Layout.{Layout, Fits, house, files}
+use Rattle.model.specs.declared.Kind.{Kind}
+use Rattle.model.specs.declared.Kind.the-variants.{House, Published}
+use Rattle.model.specs.Layout.{Layout, Fits, house, published, layoutOf, files}
 use Rattle.model.specs.Tree.{cell}
-use Rattle.model.specs.Board.{rootBlocks, rootSound, trailerWord, greatest, blockCount, trailer, inodeBlock, inodePointer, leaf, rootAddress, sizeAddress, rootHeight, rootBlock, size, contents, fileBlocks, liveBlocks, inRange, wordCountSound, trailerSound, leafSound, fileSound}
+use Rattle.model.specs.Board.{rootBlocks, rootSound, trailerWord, greatest, blockCount, trailer, inodeBlock, inodePointer, leaf, rootAddress, sizeAddress, rootHeight, rootBlock, size, contents, fileBlocks, liveBlocks, inRange, wordCountSound, trailerSound, leafSound, spareSound, fileSound}
 use Rattle.model.specs.Store.{Store, store, barrier, performed, stores, fenced}
 use Rattle.model.specs.Plan.{plan, step, stepEpochs, planEpochs, pairs}
 use Rattle.model.specs.Fresh.{Page, stored}
@@ -33,6 +35,7 @@ pub record Formatted (g : Layout) (b b′ : List ℕ) : Type 0 where
   pub inode-root : trailer g b′ 0 ≡ g .words + 1
   pub trailers : (j : ℕ) → suc j < g .words → trailer g b′ (suc j) ≡ trailerWord g (blockCount g b) (suc j)
   pub pointers : (l : ℕ) → l < g .leaves → cell (g .words) b′ 1 l ≡ g .words * (2 + l)
+  pub spares-zero : (l : ℕ) → g .leaves ≤ l → l < g .words → cell (g .words) b′ 1 l ≡ 0
   pub leaves-zero : (l j : ℕ) → l < g .leaves → j < g .words → cell (g .words) b′ (2 + l) j ≡ 0
 
 -- ---- Such a board has only empty files
@@ -81,6 +84,10 @@ module _ (g : Layout) (fit : Fits g) (b b′ : List ℕ) (ok : T (wordCountSound
       (rw (inode-block, p .pointers l h, mul-mod-right (g .words) (2 + l)) tt)
       (rw (leaf-is l h) (low-range (2 + l) (omega arith) (omega (arith, fit .format-fits))))
 
+  spare-sound : (j : ℕ) → j < g .words - g .leaves → T (spareSound g b′ j)
+  unfolding spareSound inodePointer
+  spare-sound j h = rw (inode-block, p .spares-zero (g .leaves + j) (omega arith) (omega arith)) tt
+
   file-sound : (f : ℕ) → f < files g → T (fileSound g b′ f)
   unfolding fileSound rootSound
   file-sound f h = rw (size-zero f h, le-leb 0 (greatest g) (omega arith)) tt
@@ -107,6 +114,7 @@ module _ (g : Layout) (fit : Fits g) (b b′ : List ℕ) (ok : T (wordCountSound
       words = rw (words-kept g b′ b (p .lengths)) ok;
       trailers = trailer-sound;
       leaves = leaf-sound;
+      spares = spare-sound;
       files-sound = file-sound;
       once = λ q. rw live-are (live-once q);
     });
@@ -264,6 +272,10 @@ module _ (g : Layout) (fit : Fits g) (b : List ℕ) (ok : T (wordCountSound g b)
   unfolding formatPages inodePage
   pointer-held l h = page-held 0 l (omega arith) (omega (arith, fit .leaves-fit)) ∙ rw (lt-ltb l (g .leaves) h)
 
+  spare-held : (l : ℕ) → g .leaves ≤ l → l < g .words → cell (g .words) done 1 l ≡ 0
+  unfolding formatPages inodePage
+  spare-held l u h = page-held 0 l (omega arith) h ∙ rw (le-ltb l (g .leaves) u)
+
   leaf-held : (l j : ℕ) → l < g .leaves → j < g .words → cell (g .words) done (2 + l) j ≡ 0
   unfolding formatPages
   leaf-held l j h m =
@@ -277,6 +289,7 @@ module _ (g : Layout) (fit : Fits g) (b : List ℕ) (ok : T (wordCountSound g b)
     inode-root = rw same-blocks root-held;
     trailers = λ j l. rw same-blocks (trailer-held j l);
     pointers = pointer-held;
+    spares-zero = spare-held;
     leaves-zero = leaf-held;
   }
 
@@ -319,11 +332,23 @@ module _ (g : Layout) (fit : Fits g) (b : List ℕ) (ok : T (wordCountSound g b)
   pub format-lives : liveBlocks g (performed b (stores (pairs (formatPlan g b)))) ≡ 1 ∷ (tabulate (g .leaves) (λ l. 2 + l) ++ [])
   format-lives = rw performed-done (live-are g fit b done ok formatted)
 
--- ---- The house's boards
+-- ---- Each kind's boards
 
 pub house-fits : Fits house
 house-fits = record { trailer-fits = lit≤ tt; leaves-fit = lit≤ tt; inodes-fit = lit≤ tt; inodes-some = lit< tt; heights-fit = lit< tt; format-fits = lit≤ tt; addresses-fit = lit< tt }
 
+pub published-fits : Fits published
+published-fits = record { trailer-fits = lit≤ tt; leaves-fit = lit≤ tt; inodes-fit = lit≤ tt; inodes-some = lit< tt; heights-fit = lit< tt; format-fits = lit≤ tt; addresses-fit = lit< tt }
+
+-- the laws hold of every kind
+pub fits : (k : Kind) → Fits (layoutOf k)
+fits House = house-fits
+fits Published = published-fits
+
 -- on every board whose word count is in order
 pub house-format : (b : List ℕ) → T (wordCountSound house b) → (length (pairs (formatPlan house b)) ≡ 83) × Empty house (performed b (stores (pairs (formatPlan house b))))
 house-format b ok = (format-pairs house house-fits b, format-empties house house-fits b ok)
+
+pub published-format : (b : List ℕ) → T (wordCountSound published b)
+    → (length (pairs (formatPlan published b)) ≡ 1539) × Empty published (performed b (stores (pairs (formatPlan published b))))
+published-format b ok = (format-pairs published published-fits b, format-empties published published-fits b ok)

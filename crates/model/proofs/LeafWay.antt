@@ -12,7 +12,7 @@ use borrow.Author.Tests.{eq-eqb, ne-eqb}
 use Rattle.model.specs.Lists.{one, occ}
 use Rattle.model.specs.Layout.{Layout, Fits, files}
 use Rattle.model.specs.Tree.{span, cell}
-use Rattle.model.specs.Board.{rootBlocks, blockCount, trailer, inodeBlock, inodePointer, leaf, rootAddress, sizeAddress, rootHeight, rootBlock, root, size, fileBlocks, liveBlocks, inRange, leafSound}
+use Rattle.model.specs.Board.{rootBlocks, blockCount, trailer, inodeBlock, inodePointer, leaf, rootAddress, sizeAddress, rootHeight, rootBlock, root, size, fileBlocks, liveBlocks, inRange, leafSound, spareSound}
 use Rattle.model.specs.Store.{Store, store, performed}
 use Rattle.model.specs.Plan.{Step, step}
 use Rattle.model.specs.Fresh.{Page, freshNeed, stored, build}
@@ -25,7 +25,7 @@ use Rattle.model.specs.GivenUp.{pathBlocks}
 use Rattle.model.proofs.Paths.{touched-new}
 use Rattle.model.proofs.Changed.{Changed}
 use Rattle.model.proofs.Built.{held, used, used-add, used-one, length-build, held-left, held-right, build-changed}
-use Rattle.model.proofs.Shown.{Same, words-pos, count-kept, inode-kept, trailer-kept, leaf-kept, leaf-sound-kept, inode-live, leaf-live, file-live, leaf-of, slot, root-block}
+use Rattle.model.proofs.Shown.{Same, words-pos, count-kept, inode-kept, trailer-kept, leaf-kept, leaf-sound-kept, spare-sound-kept, inode-live, leaf-live, file-live, leaf-of, slot, root-block}
 use Rattle.model.proofs.Accepting.{FileOn, Ranged, in-range, accepted-parts, Facts, facts, address-on-board}
 use Rattle.model.proofs.Commits.{Written, spliced, written-commit, Others, one-file, OneFile, one-file-counts}
 use Rattle.model.proofs.Apart.{inode-not-leaf, file-not-inode, inodes-apart}
@@ -182,9 +182,9 @@ module _ {g : Layout} {b : List ℕ} {f o : ℕ} {new : List ℕ} (w : Writing g
   inode = inode-kept g b b₂ len fit trailers
 
   -- the inode pointers
-  pointer-stays : (l : ℕ) → l < g .leaves → l ≢ l₀ → inodePointer g b l ≡ inodePointer g b₂ l
+  pointer-stays : (l : ℕ) → l < g .words → l ≢ l₀ → inodePointer g b l ≡ inodePointer g b₂ l
   unfolding inodePointer cell b₂ c₁
-  pointer-stays l u d = stored-keeps supply pages pages-room (inodeBlock g b) (inode-live g b) l (omega (arith, fit .leaves-fit))
+  pointer-stays l u d = stored-keeps supply pages pages-room (inodeBlock g b) (inode-live g b) l u
       ∙ sym (getD-set-other c₁ a (g .words * inodeBlock g b + l) (g .words * copied) 0 (λ x. d (omega arith)))
       ∙ ap (λ (x : ℕ). getD b₂ (g .words * x + l) 0) inode
 
@@ -198,7 +198,7 @@ module _ {g : Layout} {b : List ℕ} {f o : ℕ} {new : List ℕ} (w : Writing g
   leaf-new = ap (λ (x : ℕ). x / g .words) pointer-new ∙ mul-div-cancel-left copied pos
 
   leaf-stays : (l : ℕ) → l < g .leaves → l ≢ l₀ → leaf g b l ≡ leaf g b₂ l
-  leaf-stays l u d = leaf-kept g b b₂ len l (pointer-stays l u d)
+  leaf-stays l u d = leaf-kept g b b₂ len l (pointer-stays l (omega (arith, fit .leaves-fit)) d)
 
   copied-in : Ranged g b₂ copied
   copied-in = rw (← (count-kept g b b₂ len)) (supply .between .nonzero (c + length ps) (omega arith), supply .between .below (c + length ps) (omega arith))
@@ -211,8 +211,13 @@ module _ {g : Layout} {b : List ℕ} {f o : ℕ} {new : List ℕ} (w : Writing g
   leaves-sound : (l : ℕ) → l < g .leaves → T (leafSound g b₂ l)
   leaves-sound l u = elim (decide l l₀) [
     | inl e ↦ rw e leaf-new-sound
-    | inr d ↦ rw (← (leaf-sound-kept g b b₂ len l (pointer-stays l u d))) (accepted-parts g b board .leaves l u)
+    | inr d ↦ rw (← (leaf-sound-kept g b b₂ len l (pointer-stays l (omega (arith, fit .leaves-fit)) d))) (accepted-parts g b board .leaves l u)
   ]
+
+  spares-sound : (j : ℕ) → j < g .words - g .leaves → T (spareSound g b₂ j)
+  spares-sound j u =
+      let stays = pointer-stays (g .leaves + j) (omega arith) (λ x. omega (arith, leaf-of g fit f file)) in
+      rw (← (spare-sound-kept g b b₂ len j stays)) (accepted-parts g b board .spares j u)
 
   -- the fresh blocks
   all-held : held (g .words) fresh b₂ pages c
@@ -294,6 +299,7 @@ module _ {g : Layout} {b : List ℕ} {f o : ℕ} {new : List ℕ} (w : Writing g
     trailers = rw (← (trailer-kept g b b₂ len fit trailers)) (accepted-parts g b board .trailers);
     inode = inode;
     leaves = leaves-sound;
+    spares = spares-sound;
     leaves-stay = leaf-stays;
     leaf-moved = λ q. omega (arith, ap (one q) leaf-new);
     others = others;

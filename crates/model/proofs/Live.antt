@@ -8,7 +8,7 @@ use lib.Dec.{ltb}
 use borrow.Author.Tests.{lt-ltb}
 use Rattle.model.specs.Lists.{every, all, occ}
 use Rattle.model.specs.Layout.{Layout, files}
-use Rattle.model.specs.Board.{blockCount, inodeBlock, liveBlocks, trailerSound, leafSound, fileSound}
+use Rattle.model.specs.Board.{blockCount, inodeBlock, liveBlocks, trailerSound, inodesSound, fileSound}
 use Rattle.model.proofs.Cases.{every-of, true-left, true-right}
 use Rattle.model.proofs.Counting.{one-same}
 use Rattle.model.proofs.Accepting.{Pointers, inode-range, leaves-range, file-tree}
@@ -27,13 +27,12 @@ module _ (g : Layout) (b : List ℕ) where
   pub inode-below : trailerSound g b ≡ true → ltb (inodeBlock g b) (blockCount g b - 1) ≡ true
   inode-below e = lt-ltb (inodeBlock g b) (blockCount g b - 1) (inode-range g b (rw e tt) .1)
 
-  pub live-below : 0 < g .words → trailerSound g b ≡ true → (every (g .leaves) (leafSound g b) && every (files g) (fileSound g b)) ≡ true → below (blockCount g b - 1) (liveBlocks g b) ≡ true
+  pub live-below : 0 < g .words → trailerSound g b ≡ true → (inodesSound g b && every (files g) (fileSound g b)) ≡ true → below (blockCount g b - 1) (liveBlocks g b) ≡ true
   live-below pos t e =
-      let leaves : Bool = every (g .leaves) (leafSound g b) in
       let trees : Bool = every (files g) (fileSound g b) in
       let ok : Pointers g b = record {
         inode = inode-range g b (rw t tt);
-        leaf-in = leaves-range g b (true-left leaves trees e);
-        tree = λ f u. file-tree g b f (every-of (files g) (fileSound g b) (rw (true-right leaves trees e) tt) f u);
+        leaf-in = leaves-range g b (true-left (inodesSound g b) trees e);
+        tree = λ f u. file-tree g b f (every-of (files g) (fileSound g b) (rw (true-right (inodesSound g b) trees e) tt) f u);
       } in
       below-of (blockCount g b - 1) (liveBlocks g b) (λ q o. live-in g pos b ok q o .1)

@@ -15,7 +15,7 @@ use Rattle.model.specs.Lists.{tabulate, joined, every, sum, distinct, on
 use Rattle.model.specs.Words.{byteOf}
 use Rattle.model.specs.Layout.{Layout, Fits, files}
 use Rattle.model.specs.Tree.{ending, span, link, walk, shown}
-use Rattle.model.specs.Board.{rootWalk, rootBlocks, rootSound, trailerWord, greatest, blockCount, trailer, inodeBlock, inodePointer, leaf, rootAddress, rootHeight, rootBlock, root, size, fileWalk, contents, fileBlocks, liveBlocks, free, inRange, wordCountSound, trailerSound, leafSound, fileSound, treesSound, accepted, sizeAddress}
+use Rattle.model.specs.Board.{rootWalk, rootBlocks, rootSound, trailerWord, greatest, blockCount, trailer, inodeBlock, inodePointer, leaf, rootAddress, rootHeight, rootBlock, root, size, fileWalk, contents, fileBlocks, liveBlocks, free, inRange, wordCountSound, trailerSound, leafSound, spareSound, inodesSound, fileSound, treesSound, accepted, sizeAddress}
 use Rattle.model.specs.Calls.{wordCountFault, boardFaults, checkAnswer}
 use Rattle.model.proofs.Cases.{split, every-cong, tabulate-cong, joined-cong}
 use Rattle.model.proofs.Sums.{sum-at}
@@ -126,7 +126,7 @@ root-sound W pos b b′ r r′ (suc n) e a height top = rw (← (e (omega arith)
 pub record Same (g : Layout) (b b′ : List ℕ) : Type 0 where
   pub lengths : length b ≡ length b′
   pub trailers : (j : ℕ) → j < g .words → trailer g b j ≡ trailer g b′ j
-  pub pointers : (l : ℕ) → l < g .leaves → inodePointer g b l ≡ inodePointer g b′ l
+  pub pointers : (l : ℕ) → l < g .words → inodePointer g b l ≡ inodePointer g b′ l
   pub sizes : (f : ℕ) → f < files g → size g b f ≡ size g b′ f
   pub roots : (f : ℕ) → f < files g → 0 < size g b f → root g b f ≡ root g b′ f
   pub trees : (f : ℕ) → f < files g → agree (g .words) b b′ (rootHeight g b f) (rootBlock g b f) (size g b f)
@@ -152,6 +152,10 @@ module _ (g : Layout) (b b′ : List ℕ) (len : length b ≡ length b′) where
   unfolding leafSound inRange
   leaf-sound-kept l e = rw (e, leaf-kept l e, count-kept)
 
+  pub spare-sound-kept : (j : ℕ) → inodePointer g b (g .leaves + j) ≡ inodePointer g b′ (g .leaves + j) → spareSound g b j ≡ spareSound g b′ j
+  unfolding spareSound
+  spare-sound-kept j e = ap (λ (x : ℕ). eqb x 0) e
+
   module _ (fit : Fits g) (trailers : (j : ℕ) → j < g .words → trailer g b j ≡ trailer g b′ j) where
     pub inode-kept : inodeBlock g b ≡ inodeBlock g b′
     unfolding inodeBlock
@@ -175,7 +179,7 @@ module _ (g : Layout) (fit : Fits g) (b b′ : List ℕ) (s : Same g b b′) whe
   same-inode = inode-kept g b b′ (s .lengths) fit (s .trailers)
 
   pub same-leaf : (l : ℕ) → l < g .leaves → leaf g b l ≡ leaf g b′ l
-  same-leaf l h = leaf-kept g b b′ (s .lengths) l (s .pointers l h)
+  same-leaf l h = leaf-kept g b b′ (s .lengths) l (s .pointers l (omega (arith, fit .leaves-fit)))
 
   pub same-address : (f : ℕ) → f / g .inodes < g .leaves → rootAddress g b f ≡ rootAddress g b′ f
   unfolding rootAddress
@@ -206,9 +210,14 @@ module _ (g : Layout) (fit : Fits g) (b b′ : List ℕ) (s : Same g b b′) whe
   unfolding fileWalk
   same-walk f h i = rw (← (s .sizes f h)) (root-walk (g .words) pos b b′ (root g b f) (root g b′ f) (size g b f) (s .roots f h) (s .trees f h) i)
 
+  same-inodes : inodesSound g b ≡ inodesSound g b′
+  unfolding inodesSound
+  same-inodes = ap₂ _&&_ (every-cong (g .leaves) (leafSound g b) (leafSound g b′) (λ l h. leaf-sound-kept g b b′ (s .lengths) l (s .pointers l (omega (arith, fit .leaves-fit)))))
+      (every-cong (g .words - g .leaves) (spareSound g b) (spareSound g b′) (λ j h. spare-sound-kept g b b′ (s .lengths) j (s .pointers (g .leaves + j) (omega arith))))
+
   same-trees : treesSound g b ≡ treesSound g b′
   unfolding treesSound
-  same-trees = ap₂ _&&_ (ap₂ _&&_ (every-cong (g .leaves) (leafSound g b) (leafSound g b′) (λ l h. leaf-sound-kept g b b′ (s .lengths) l (s .pointers l h))) (every-cong (files g) (fileSound g b) (fileSound g b′) same-file)) (ap distinct same-live)
+  same-trees = ap₂ _&&_ (ap₂ _&&_ same-inodes (every-cong (files g) (fileSound g b) (fileSound g b′) same-file)) (ap distinct same-live)
 
   pub same-accepted : accepted g b ≡ accepted g b′
   unfolding accepted

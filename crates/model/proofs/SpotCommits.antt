@@ -8,7 +8,7 @@ use lib.ListN.{length, length-set, set}
 use Rattle.model.specs.Lists.{one, occ}
 use Rattle.model.specs.Layout.{Layout}
 use Rattle.model.specs.Board.{trailer, inodePointer, leaf, sizeAddress, liveBlocks}
-use Rattle.model.proofs.Shown.{Same, words-pos, leaf-of, same-accepted, same-address, same-blocks, trailer-kept, inode-kept, leaf-kept, leaf-sound-kept}
+use Rattle.model.proofs.Shown.{Same, words-pos, leaf-of, same-accepted, same-address, same-blocks, trailer-kept, inode-kept, leaf-kept, leaf-sound-kept, spare-sound-kept}
 use Rattle.model.proofs.Accepting.{accepted-parts, FileOn}
 use Rattle.model.proofs.Commits.{FileCommit, OneFile, Outcome, one-file, one-file-counts, others-from}
 use Rattle.model.proofs.Apart.{Spot, spot-trailer, spot-pointer, spot-others}
@@ -36,19 +36,20 @@ module _ {g : Layout} {b c : List ℕ} {f : ℕ} (on : FileOn g b f) (same : Sam
     trailers : (j : ℕ) → j < g .words → trailer g b j ≡ trailer g b₂ j
     trailers j l = same .trailers j l ∙ spot-trailer on-same a v s j l
 
-    pointers : (l : ℕ) → l < g .leaves → inodePointer g b l ≡ inodePointer g b₂ l
+    pointers : (l : ℕ) → l < g .words → inodePointer g b l ≡ inodePointer g b₂ l
     pointers l u = same .pointers l u ∙ spot-pointer on-same a v s l u
 
     module _ {wanted : List ℕ} {extra gone : ℕ → ℕ} (done : FileCommit g b b₂ f wanted extra gone) (spare : (q : ℕ) → occ q (liveBlocks g b) + extra q ≤ 1) where
       one-word : OneFile g b b₂ f wanted (λ q. 0) (λ q. 0) extra gone
       one-word =
           let parts = accepted-parts g b board in
-          let stays : (l : ℕ) → l < g .leaves → leaf g b l ≡ leaf g b₂ l = λ l u. leaf-kept g b b₂ len l (pointers l u) in
+          let stays : (l : ℕ) → l < g .leaves → leaf g b l ≡ leaf g b₂ l = λ l u. leaf-kept g b b₂ len l (pointers l (omega (arith, fit .leaves-fit))) in
           record {
             lengths = len;
             trailers = rw (← (trailer-kept g b b₂ len fit trailers)) (parts .trailers);
             inode = inode-kept g b b₂ len fit trailers;
-            leaves = λ l u. rw (← (leaf-sound-kept g b b₂ len l (pointers l u))) (parts .leaves l u);
+            leaves = λ l u. rw (← (leaf-sound-kept g b b₂ len l (pointers l (omega (arith, fit .leaves-fit))))) (parts .leaves l u);
+            spares = λ j u. rw (← (spare-sound-kept g b b₂ len j (pointers (g .leaves + j) (omega arith)))) (parts .spares j u);
             leaves-stay = λ l u d. stays l u;
             leaf-moved = λ q. omega (arith, ap (one q) (stays (f / g .inodes) (leaf-of g fit f file)));
             others = others-from (words-pos g fit) same (spot-others on-same a v s);

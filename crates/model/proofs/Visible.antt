@@ -17,10 +17,10 @@ use Rattle.model.proofs.Perform.{All, address-block}
 use Rattle.model.proofs.Agree.{agree, agree-refl, agree-trans, agree-none, frame, dark-word, dark-again}
 use Rattle.model.proofs.Shown.{Same, same-address, inode-live, leaf-live, root-block, size-block, words-pos, same-count, same-inode, file-live, leaf-of}
 
--- x is the address of a word of the trailer, an inode pointer, a size, or the root of a file that is not empty: of a visible word outside the files' trees
+-- x is the address of a word of the trailer, a word of the inode pointer block, a size, or the root of a file that is not empty: of a visible word outside the files' trees
 pub data Visible (g : Layout) (b : List ℕ) : ℕ → Type 0 where
   trailer-word : (j : ℕ) → j < g .words → Visible g b (g .words * (blockCount g b - 1) + j)
-  pointer-word : (l : ℕ) → l < g .leaves → Visible g b (g .words * inodeBlock g b + l)
+  pointer-word : (l : ℕ) → l < g .words → Visible g b (g .words * inodeBlock g b + l)
   size-word : (f : ℕ) → f < files g → Visible g b (sizeAddress g b f)
   root-word : (f : ℕ) → f < files g → 0 < size g b f → Visible g b (rootAddress g b f)
 
@@ -49,8 +49,8 @@ module _ (g : Layout) (fit : Fits g) where
       let count : blockCount g b ≡ blockCount g b′ = ap (λ (x : ℕ). x / W) len in
       let trailers : (j : ℕ) → j < W → trailer g b j ≡ trailer g b′ j = λ j l. word (W * (blockCount g b - 1) + j) (trailer-word j l) ∙ ap (λ (x : ℕ). getD b′ (W * (x - 1) + j) 0) count in
       let inode : inodeBlock g b ≡ inodeBlock g b′ = ap (λ (x : ℕ). x / W) (trailers 0 (words-pos g fit)) in
-      let pointers : (l : ℕ) → l < g .leaves → inodePointer g b l ≡ inodePointer g b′ l = λ l h. word (W * inodeBlock g b + l) (pointer-word l h) ∙ ap (λ (x : ℕ). getD b′ (W * x + l) 0) inode in
-      let leaf-same : (f : ℕ) → f < files g → leaf g b (f / g .inodes) ≡ leaf g b′ (f / g .inodes) = λ f h. ap (λ (x : ℕ). x / W) (pointers (f / g .inodes) (leaf-of g fit f h)) in
+      let pointers : (l : ℕ) → l < g .words → inodePointer g b l ≡ inodePointer g b′ l = λ l h. word (W * inodeBlock g b + l) (pointer-word l h) ∙ ap (λ (x : ℕ). getD b′ (W * x + l) 0) inode in
+      let leaf-same : (f : ℕ) → f < files g → leaf g b (f / g .inodes) ≡ leaf g b′ (f / g .inodes) = λ f h. ap (λ (x : ℕ). x / W) (pointers (f / g .inodes) (omega (arith, leaf-of g fit f h, fit .leaves-fit))) in
       record {
         lengths = len;
         trailers = trailers;

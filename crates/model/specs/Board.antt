@@ -141,13 +141,21 @@ module _ (g : Layout) (b : List ℕ) where
   unfoldable pub leafSound : ℕ → Bool
   leafSound l = eqb (inodePointer l % g .words) 0 && inRange (leaf l)
 
+  -- N11: *the inode pointer block's other words are 0*. This one is the j-th of them; the house's block has none
+  unfoldable pub spareSound : ℕ → Bool
+  spareSound j = eqb (inodePointer (g .leaves + j)) 0
+
+  -- all words of the inode pointer block
+  unfoldable pub inodesSound : Bool
+  inodesSound = every (g .leaves) leafSound && every (g .words - g .leaves) spareSound
+
   -- a file's *size is in range* and its live root and pointers are as they must be
   unfoldable pub fileSound : ℕ → Bool
   fileSound f = leb (size f) (greatest g) && rootSound (g .words) b (g .height) (blockCount - 1) (root f) (size f)
 
   -- inode pointers, files, *and no block is reached twice*
   unfoldable pub treesSound : Bool
-  treesSound = every (g .leaves) leafSound && every (files g) fileSound && distinct liveBlocks
+  treesSound = inodesSound && every (files g) fileSound && distinct liveBlocks
 
   -- *A board is accepted*
   unfoldable pub accepted : Bool

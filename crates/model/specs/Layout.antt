@@ -1,4 +1,4 @@
--- The figures of a kind of board. Document 01 has one kind, the house's; definitions and laws take any.
+-- The figures of a kind of board. Document 01 has one kind, the house's, N11 of document 02 a second; definitions and laws take any.
 use Prim.Native.Nat.{ℕ, _+_, _*_, _^_, _≤_, _<_}
 use Rattle.model.specs.declared.Kind.{Kind}
 use Rattle.model.specs.declared.Kind.the-variants.{House, Published}
@@ -20,7 +20,7 @@ pub record Layout : Type 0 where
 abbrev pub house : Layout
 house = record { words = 8; height = 3; leaves = 8; inodes = 4; mark = 1; most = 1024 }
 
--- a board with the published block, of 512 words. No call takes one yet; code is proved for its figures too. That its spare inode pointers are 0 is not asked
+-- N11: a board with the published block. *16 to 512 blocks of 512 words*; *heights are 0 and 1*; *files number 32 in one leaf*; *trailer word 3 is 3*
 abbrev pub published : Layout
 published = record { words = 512; height = 1; leaves = 1; inodes = 32; mark = 3; most = 512 }
 

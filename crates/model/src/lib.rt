@@ -42,10 +42,10 @@ pub struct Inode {
     pub size: u64,
 }
 
-// A kind of board; specs/Layout.antt has each kind's figures. Calls take the house's alone.
+// A kind of board; specs/Layout.antt has each kind's figures. Each kind has calls of its own.
 pub enum Kind {
     // document 01's: blocks of 8 words
     House,
-    // blocks of 512 words
+    // N11 of document 02: blocks of 512 words
     Published,
 }

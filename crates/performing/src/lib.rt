@@ -11,7 +11,7 @@ ghost use Prim.Native.Nat.{_*_, _≤_};
 ghost use lib.ListN.{length, take};
 ghost use lib.Dec.{ltb};
 ghost use Rattle.model.specs.Lists.{all};
-ghost use Rattle.model.specs.Layout.{house, layoutOf};
+ghost use Rattle.model.specs.Layout.{house, published, layoutOf};
 ghost use Rattle.model.specs.Store.{isBarrier, performed, stores, paired};
 ghost use Rattle.performing.specs.Results.{PerformResult};
 
@@ -68,4 +68,11 @@ pub fn perform(board: &mut [u64], plan: &[u64], pairs: u64) -> Answer
     ensures { λ r. ⌜ PerformResult house (now (board .entry)) (now (plan .entry)) pairs r (now (board .exit)) ⌝ }
 {
     perform_kind(Kind::House, board, plan, pairs)
+}
+
+// Perform on a published board: the first `pairs` pairs of a plan. Answers their number, or refused 1, 9, 10.
+pub fn published_perform(board: &mut [u64], plan: &[u64], pairs: u64) -> Answer
+    ensures { λ r. ⌜ PerformResult published (now (board .entry)) (now (plan .entry)) pairs r (now (board .exit)) ⌝ }
+{
+    perform_kind(Kind::Published, board, plan, pairs)
 }

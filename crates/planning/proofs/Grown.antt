@@ -22,7 +22,8 @@ use Rattle.model.proofs.Perform.{length-tabulate, length-stored}
 use Rattle.model.proofs.Steps.{step-some, steps-stores}
 use Rattle.words.specs.Width.{Width}
 use Rattle.kinds.specs.Figures.{Bits}
-use Rattle.kinds.proofs.Figures.{fits, words-pos, low-height}
+use Rattle.model.proofs.Formatted.{fits}
+use Rattle.kinds.proofs.Figures.{words-pos, low-height}
 use Rattle.plans.specs.declared.Grown.{Grown}
 use Rattle.plans.specs.Laying.{closing, Laid, PlanLaid}
 use Rattle.plans.specs.Onto.{taking, Blocks, onto, NotGrown}

@@ -19,7 +19,8 @@ use Rattle.model.specs.Change.{cleared, lengthPlan}
 use Rattle.model.proofs.Accepting.{facts}
 use Rattle.model.proofs.Plans.{cleared-empty, cleared-live}
 use Rattle.kinds.specs.Figures.{Bits}
-use Rattle.kinds.proofs.Figures.{fits, files-32}
+use Rattle.model.proofs.Formatted.{fits}
+use Rattle.kinds.proofs.Figures.{files-32}
 use Rattle.plans.specs.Laying.{closing, Laid}
 use Rattle.plans.proofs.Laying as Laying
 use Rattle.boards.specs.Inodes.{AddressOf}

@@ -19,7 +19,8 @@ use Rattle.model.proofs.Cases.{split, is-true}
 use Rattle.model.proofs.Descent.{hole≢block, walk-inside}
 use Rattle.model.proofs.Accepting.{accepted-parts, facts}
 use Rattle.model.proofs.Ranges.{file-range}
-use Rattle.kinds.proofs.Figures.{fits, words-pos, few-blocks as few, files-32}
+use Rattle.model.proofs.Formatted.{fits}
+use Rattle.kinds.proofs.Figures.{words-pos, few-blocks as few, files-32}
 use Rattle.surveying.proofs.Surveying.{short}
 use Rattle.plans.specs.Onto.{taking}
 use Rattle.plans.specs.declared.Count.{Count}

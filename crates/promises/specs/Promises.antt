@@ -1,4 +1,4 @@
--- What a caller has who knows the contracts alone. `r` is what the call answered and `slice′` the plan slice as it left it; both stand in the contract of
+-- What a caller has who knows the contracts alone, of each kind of board. `r` is what the call answered and `slice′` the plan slice as it left it; both stand in the contract of
 -- the call, PlanResult, and what perform does with them in PerformResult.
 use mathlib.Core.Path.{_≡_}
 use mathlib.Core.Logic.{_⊎_}
@@ -10,7 +10,8 @@ use Rattle.model.specs.declared.Answer.{Answer}
 use Rattle.model.specs.declared.Answer.the-variants.{Done, Refused}
 use Rattle.model.specs.declared.Fault.the-variants.{Trailer}
 use Rattle.model.specs.Words.{Bytes}
-use Rattle.model.specs.Layout.{house}
+use Rattle.model.specs.declared.Kind.{Kind}
+use Rattle.model.specs.Layout.{Layout, layoutOf}
 use Rattle.model.specs.Board.{trailer, contents, accepted, wordCountSound}
 use Rattle.model.specs.Store.{Store, isBarrier}
 use Rattle.model.specs.Answers.{counted}
@@ -41,31 +42,32 @@ cutAfter (suc k) [] = record { epoch = 0; arrived = λ i. false }
 cutAfter (suc k) (s ∷ ss) = cond (isBarrier s) (later (cutAfter k ss)) (record { epoch = cutAfter k ss .epoch; arrived = firstToo (cutAfter k ss .epoch) (cutAfter k ss .arrived) })
 
 -- what is so of the plan that a call left for file f, which is to read `wanted`
-pub record Kept (b : List ℕ) (f : ℕ) (wanted : List ℕ) (r : Answer) (slice′ : List ℕ) : Type 0 where
+pub record Kept (g : Layout) (b : List ℕ) (f : ℕ) (wanted : List ℕ) (r : Answer) (slice′ : List ℕ) : Type 0 where
   -- cut anywhere, it obeys the power-cut rule
-  pub cut : (x : Cut) → let ss : List Store = planLeft r slice′ in Names ss x → CutSafe house b (standing ss x b) f wanted ss (lastArrived ss x)
+  pub cut : (x : Cut) → let ss : List Store = planLeft r slice′ in Names ss x → CutSafe g b (standing ss x b) f wanted ss (lastArrived ss x)
   -- performed by `perform` up to any pair, it leaves the board of such a cut
-  pub part : (k : ℕ) → k ≤ counted r → (q : Answer) (b′ : List ℕ) → PerformResult house b slice′ k q b′
-      → let ss : List Store = planLeft r slice′ in (q ≡ Done k) × CutSafe house b b′ f wanted ss (lastArrived ss (cutAfter k ss))
+  pub part : (k : ℕ) → k ≤ counted r → (q : Answer) (b′ : List ℕ) → PerformResult g b slice′ k q b′
+      → let ss : List Store = planLeft r slice′ in (q ≡ Done k) × CutSafe g b b′ f wanted ss (lastArrived ss (cutAfter k ss))
   -- performed whole by `perform`, which does not refuse it, the file reads as after and no other file is changed
-  pub whole : (q : Answer) (b′ : List ℕ) → PerformResult house b slice′ (counted r) q b′ → (q ≡ Done (counted r)) × Altered house b b′ f wanted
+  pub whole : (q : Answer) (b′ : List ℕ) → PerformResult g b slice′ (counted r) q b′ → (q ≡ Done (counted r)) × Altered g b b′ f wanted
 
--- `write`
+-- `write`, `published_write`
 abbrev pub WritePromise : Type 0
-WritePromise = (b : List ℕ) → T (accepted house b) → (f o : ℕ) (bytes : Bytes) (slice : List ℕ) (r : Answer) (slice′ : List ℕ)
-    → PlanResult (write house b f o (bytes .values) slice) r slice′ → Kept b f (after (writing f o bytes) r (contents house b f)) r slice′
+WritePromise = (k : Kind) → let g : Layout = layoutOf k in (b : List ℕ) → T (accepted g b) → (f o : ℕ) (bytes : Bytes) (slice : List ℕ) (r : Answer) (slice′ : List ℕ)
+    → PlanResult (write g b f o (bytes .values) slice) r slice′ → Kept g b f (after (writing f o bytes) r (contents g b f)) r slice′
 
--- `set_length`
+-- `set_length`, `published_set_length`
 abbrev pub SetLengthPromise : Type 0
-SetLengthPromise = (b : List ℕ) → T (accepted house b) → (f n : ℕ) (slice : List ℕ) (r : Answer) (slice′ : List ℕ)
-    → PlanResult (setLength house b f n slice) r slice′ → Kept b f (after (lengthTo f n) r (contents house b f)) r slice′
+SetLengthPromise = (k : Kind) → let g : Layout = layoutOf k in (b : List ℕ) → T (accepted g b) → (f n : ℕ) (slice : List ℕ) (r : Answer) (slice′ : List ℕ)
+    → PlanResult (setLength g b f n slice) r slice′ → Kept g b f (after (lengthTo f n) r (contents g b f)) r slice′
 
--- `format`, on any board whose word count is sound: cut anywhere it leaves the old board, or one that check refuses 2, or 32 empty files; performed whole, where it
+-- `format`, `published_format`, on any board whose word count is sound: cut anywhere it leaves the old board, or one that check refuses 2, or 32 empty files; performed whole, where it
 -- was not refused, the last
-pub record Formats (b : List ℕ) (r : Answer) (slice′ : List ℕ) : Type 0 where
+pub record Formats (g : Layout) (b : List ℕ) (r : Answer) (slice′ : List ℕ) : Type 0 where
   pub cut : (x : Cut) → let ss : List Store = planLeft r slice′ in let b′ : List ℕ = standing ss x b in
-      Names ss x → (b′ ≡ b) ⊎ (((trailer house b′ 0 ≡ 0) × (checkAnswer house b′ ≡ Refused Trailer)) ⊎ Empty house b′)
-  pub whole : (n : ℕ) → r ≡ Done n → (q : Answer) (b′ : List ℕ) → PerformResult house b slice′ n q b′ → (q ≡ Done n) × Empty house b′
+      Names ss x → (b′ ≡ b) ⊎ (((trailer g b′ 0 ≡ 0) × (checkAnswer g b′ ≡ Refused Trailer)) ⊎ Empty g b′)
+  pub whole : (n : ℕ) → r ≡ Done n → (q : Answer) (b′ : List ℕ) → PerformResult g b slice′ n q b′ → (q ≡ Done n) × Empty g b′
 
 abbrev pub FormatPromise : Type 0
-FormatPromise = (b : List ℕ) → T (wordCountSound house b) → (slice : List ℕ) (r : Answer) (slice′ : List ℕ) → PlanResult (format house b slice) r slice′ → Formats b r slice′
+FormatPromise = (k : Kind) → let g : Layout = layoutOf k in (b : List ℕ) → T (wordCountSound g b) → (slice : List ℕ) (r : Answer) (slice′ : List ℕ)
+    → PlanResult (format g b slice) r slice′ → Formats g b r slice′

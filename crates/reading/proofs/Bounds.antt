@@ -11,7 +11,9 @@ use Rattle.model.specs.declared.Answer.{Answer}
 use Rattle.model.specs.declared.Answer.the-variants.{Done, Refused}
 use Rattle.model.specs.declared.WalkEnd.the-variants.{Block}
 use Rattle.model.specs.Lists.{consIf, pickFrom, member}
-use Rattle.model.specs.Layout.{house, files}
+use Rattle.model.specs.declared.Kind.{Kind}
+use Rattle.model.specs.declared.Kind.the-variants.{House, Published}
+use Rattle.model.specs.Layout.{house, layoutOf, files}
 use Rattle.model.specs.Tree.{span, cell, link, walk}
 use Rattle.model.specs.Board.{rootWalk, greatest, blockCount, size, linkedLeaf, linkedWord, walkTo, liveBlocks, free}
 use Rattle.model.specs.Answers.{Faults, answered, counted}
@@ -19,10 +21,11 @@ use Rattle.model.specs.Calls.{boardFaults, fileFaults, checkAnswer, freeCountAn
 use Rattle.model.proofs.Cases.{split}
 use Rattle.model.proofs.Descent.{hole≢block, ending-is}
 use Rattle.model.proofs.Accepting.{facts}
-use Rattle.model.proofs.Formatted.{house-fits}
 use Rattle.model.proofs.Refusals.{same-refused, same-done}
 use Rattle.reading.specs.Results.{ReadResult}
 use Rattle.surveying.proofs.FileNumbers.{file-found}
+use Rattle.model.proofs.Formatted.{fits}
+use Rattle.kinds.proofs.Figures.{small-sizes}
 
 pub counted-most : (fs : Faults) (n : ℕ) → counted (answered fs n) ≤ n
 unfolding answered counted
@@ -33,12 +36,15 @@ counted-most (t ∷ ts) n = by (t .1) (counted-most ts n)
     by true h = omega arith
     by false h = h
 
-module _ (b : List ℕ) (f : ℕ) where
-  size-counted : (r : Answer) → r ≡ answered (fileFaults house b f) 0 → counted (sizeAnswer house b f) ≤ 32768
-  unfolding sizeAnswer counted greatest span
-  size-counted (Refused x) e = rw (same-refused (fileFaults house b f) 0 (size house b f) e refl) (omega arith)
-  size-counted (Done v) e = let k = file-found house b f e refl in
-      rw (same-done (fileFaults house b f) 0 (size house b f) e refl) (facts house house-fits b (k .0) .most f (k .1))
+module _ (k : Kind) (b : List ℕ) (f : ℕ) where
+  abbrev faults : Faults
+  faults = fileFaults (layoutOf k) b f
+
+  size-counted : (r : Answer) → r ≡ answered faults 0 → counted (sizeAnswer (layoutOf k) b f) ≤ greatest (layoutOf k)
+  unfolding sizeAnswer counted
+  size-counted (Refused x) e = rw (same-refused faults 0 (size (layoutOf k) b f) e refl) (omega arith)
+  size-counted (Done v) e = let t = file-found (layoutOf k) b f e refl in
+      rw (same-done faults 0 (size (layoutOf k) b f) e refl) (facts (layoutOf k) (fits k) b (t .0) .most f (t .1))
 
 -- no more are picked than there are
 pick-most : (c n : ℕ) (p : ℕ → Bool) → length (pickFrom c n p) ≤ n
@@ -50,26 +56,32 @@ pick-most c (suc n) p = by (p c) (pick-most (c + 1) n p)
     by true h = omega arith
     by false h = omega arith
 
-module _ (b : List ℕ) {r : Answer} where
-  pub check-small : r ≡ checkAnswer house b → counted r < 2 ^ 63
+blocks-small : (k : Kind) (b : List ℕ) → length b < 2 ^ 64 → blockCount (layoutOf k) b < 2 ^ 63
+unfolding blockCount
+blocks-small House b h = omega arith
+blocks-small Published b h = omega arith
+
+module _ (k : Kind) (b : List ℕ) {r : Answer} where
+  pub check-small : r ≡ checkAnswer (layoutOf k) b → counted r < 2 ^ 63
   unfolding checkAnswer
-  check-small e = rw e (omega (arith, counted-most (boardFaults house b) 0))
+  check-small e = rw e (omega (arith, counted-most (boardFaults (layoutOf k) b) 0))
 
-  pub free-small : length b < 2 ^ 64 → r ≡ freeCountAnswer house b → counted r < 2 ^ 63
-  unfolding freeCountAnswer free blockCount
+  pub free-small : length b < 2 ^ 64 → r ≡ freeCountAnswer (layoutOf k) b → counted r < 2 ^ 63
+  unfolding freeCountAnswer free
   free-small h e =
-      let live : ℕ → Bool = λ k. not (member k (liveBlocks house b)) in
-      rw e (omega (arith, counted-most (boardFaults house b) (length (pickFrom 1 (length b / 8 - 2) live)), pick-most 1 (length b / 8 - 2) live))
+      let live : ℕ → Bool = λ q. not (member q (liveBlocks (layoutOf k) b)) in
+      let n : ℕ = blockCount (layoutOf k) b - 2 in
+      rw e (omega (arith, counted-most (boardFaults (layoutOf k) b) (length (pickFrom 1 n live)), pick-most 1 n live, blocks-small k b h))
 
-  pub size-small : (f : ℕ) → r ≡ sizeAnswer house b f → counted r < 2 ^ 63
-  size-small f e = rw e (omega (arith, size-counted b f (answered (fileFaults house b f) 0) refl))
+  pub size-small : (f : ℕ) → r ≡ sizeAnswer (layoutOf k) b f → counted r < 2 ^ 63
+  size-small f e = rw e (omega (arith, size-counted k b f (answered (fileFaults (layoutOf k) b f) 0) refl, small-sizes k))
 
-  pub read-small : {f o : ℕ} {out out′ : List ℕ} → length out < 2 ^ 63 → ReadResult house b f o out r out′ → counted r < 2 ^ 63
+  pub read-small : {f o : ℕ} {out out′ : List ℕ} → length out < 2 ^ 63 → ReadResult (layoutOf k) b f o out r out′ → counted r < 2 ^ 63
   unfolding readAnswer readCount
   read-small {f} {o} {out} h c =
-      let n : ℕ = readCount house b f o out in
+      let n : ℕ = readCount (layoutOf k) b f o out in
       let u : n ≤ length out = omega arith in
-      rw (c .answer) (omega (arith, counted-most (fileFaults house b f) n))
+      rw (c .answer) (omega (arith, counted-most (fileFaults (layoutOf k) b f) n))
 
 -- ---- Where a walk ends
 

@@ -1,5 +1,5 @@
 // The calls that read a board: check, free count, size, read, and the walk to a byte. Each answers what the definition of its name answers, on all
-// inputs; a refusal leaves the caller's buffer as it was.
+// inputs; a refusal leaves the caller's buffer as it was. Those named `published_` are of boards with the published block, which have no walk as a call.
 use model::Answer;
 use model::Kind;
 use model::WalkEnd;
@@ -9,7 +9,7 @@ use surveying::survey;
 use surveying::unmarked;
 use trees::root_walk;
 ghost use mathlib.Core.Path.{_≡_};
-ghost use Rattle.model.specs.Layout.{house, layoutOf};
+ghost use Rattle.model.specs.Layout.{house, published, layoutOf};
 ghost use Rattle.model.specs.Board.{walkTo};
 ghost use Rattle.model.specs.Calls.{checkAnswer, freeCountAnswer, sizeAnswer};
 ghost use Rattle.kinds.specs.Figures.{Bits};
@@ -20,6 +20,13 @@ pub fn check(board: &[u64]) -> Answer
     ensures { λ r. ⌜ r ≡ checkAnswer house (now (board .entry)) ⌝ }
 {
     check_kind(Kind::House, 3, board)
+}
+
+// Check of a published board: 0, or refused 1, 2, 3.
+pub fn published_check(board: &[u64]) -> Answer
+    ensures { λ r. ⌜ r ≡ checkAnswer published (now (board .entry)) ⌝ }
+{
+    check_kind(Kind::Published, 9, board)
 }
 
 // Free count of a board of some kind.
@@ -43,6 +50,13 @@ pub fn free_count(board: &[u64]) -> Answer
     free_count_kind(Kind::House, 3, board)
 }
 
+// Free count of a published board: the number of free blocks, or refused 1, 2, 3.
+pub fn published_free_count(board: &[u64]) -> Answer
+    ensures { λ r. ⌜ r ≡ freeCountAnswer published (now (board .entry)) ⌝ }
+{
+    free_count_kind(Kind::Published, 9, board)
+}
+
 // Size of a file of a board of some kind.
 fn size_kind(kind: Kind, bits: u64, board: &[u64], file: u64) -> Answer
     requires { ⌜ Bits kind bits ⌝ }
@@ -60,6 +74,13 @@ pub fn size(board: &[u64], file: u64) -> Answer
     ensures { λ r. ⌜ r ≡ sizeAnswer house (now (board .entry)) file ⌝ }
 {
     size_kind(Kind::House, 3, board, file)
+}
+
+// Size on a published board: a file's size, or refused 1, 2, 3, 4.
+pub fn published_size(board: &[u64], file: u64) -> Answer
+    ensures { λ r. ⌜ r ≡ sizeAnswer published (now (board .entry)) file ⌝ }
+{
+    size_kind(Kind::Published, 9, board, file)
 }
 
 // Read of a board of some kind.
@@ -82,6 +103,13 @@ pub fn read(board: &[u64], file: u64, offset: u64, out: &mut [u8]) -> Answer
     ensures { λ r. ⌜ ReadResult house (now (board .entry)) file offset (now (out .entry)) r (now (out .exit)) ⌝ }
 {
     read_kind(Kind::House, 3, board, file, offset, out)
+}
+
+// Read on a published board: fills `out` from byte `offset` on and answers the count, or refused 1, 2, 3, 4.
+pub fn published_read(board: &[u64], file: u64, offset: u64, out: &mut [u8]) -> Answer
+    ensures { λ r. ⌜ ReadResult published (now (board .entry)) file offset (now (out .entry)) r (now (out .exit)) ⌝ }
+{
+    read_kind(Kind::Published, 9, board, file, offset, out)
 }
 
 // The walk to a byte of a file. It looks at no more of the board than its path, and refuses nothing; what is null on the way, on whichever board, reads as

@@ -1,7 +1,7 @@
 -- Marking one inode leaf, the live blocks of one file, and all of them.
 use mathlib.Core.Path.{_≡_, refl, ap, _∙_}
 use mathlib.Core.Logic.{_≢_}
-use mathlib.Core.Bool.{Bool, true, false, _&&_}
+use mathlib.Core.Bool.{Bool, true, false, _&&_, and-true, and-false}
 use mathlib.Core.List.{List, [], _∷_, _++_}
 use Prim.Native.Nat.{ℕ, zero, suc, _-_, _/_, _%_, _≤_, _<_}
 use native.Mathlib.Omega.{arith}
@@ -10,11 +10,12 @@ use borrow.Author.Tests.{eq-eqb, ne-eqb, lt-ltb, le-leb, lt-leb}
 use Rattle.model.specs.Lists.{tabulate, joined, every}
 use Rattle.model.specs.Layout.{Layout, files}
 use Rattle.model.specs.Tree.{sound}
-use Rattle.model.specs.Board.{rootBlocks, rootSound, greatest, blockCount, trailer, inodeBlock, inodePointer, leaf, root, size, fileBlocks, liveBlocks, inRange, leafSound, fileSound}
+use Rattle.model.specs.Board.{rootBlocks, rootSound, greatest, blockCount, trailer, inodeBlock, inodePointer, leaf, root, size, fileBlocks, liveBlocks, inRange, leafSound, inodesSound, fileSound}
 use Rattle.model.proofs.Trees.{blocks-dead}
 use Rattle.trees.specs.Marks.{Marked}
 use Rattle.trees.specs.Trees.{Crawled}
 use Rattle.trees.proofs.Marking
+use Rattle.boards.specs.Trailers.{sparesSound}
 use Rattle.surveying.specs.Survey.{pointersSound}
 
 -- leaf l, by its pointer p, the low bits and the block of it
@@ -38,6 +39,16 @@ module _ (g : Layout) (b : List ℕ) (l : ℕ) {p low : ℕ} (ep : p ≡ inodePo
     pub leaf-claim : {top : ℕ} {m m′ : List ℕ} {ok : Bool} → low ≡ 0 → k ≢ 0 → top ≡ blockCount g b - 1 → Marked (ltb k top) (k ∷ []) m ok m′ → Marked (leafSound g b l) (leaf g b l ∷ []) m ok m′
     unfolding leafSound inRange
     leaf-claim e f et c = Marking.same (rw (← low-is, ← leaf-is, ← et, eq-eqb low 0 e, lt-ltb 0 k (omega arith))) (rw (← leaf-is)) c
+
+-- all words of the inode pointer block: s, whether the spare ones are 0, then the leaves
+module _ (g : Layout) (b : List ℕ) {m m′ : List ℕ} {s : Bool} (es : s ≡ sparesSound g b) where
+  pub inodes-spare : s ≡ false → Marked (inodesSound g b) (tabulate (g .leaves) (leaf g b)) m false m′
+  unfolding inodesSound
+  inodes-spare z = Marking.fault (rw (← es, z, and-false))
+
+  pub inodes-leaves : {ok : Bool} → s ≡ true → Marked (every (g .leaves) (leafSound g b)) (tabulate (g .leaves) (leaf g b)) m ok m′ → Marked (inodesSound g b) (tabulate (g .leaves) (leaf g b)) m ok m′
+  unfolding inodesSound
+  inodes-leaves z c = Marking.same (rw (← es, z, and-true)) refl c
 
 -- a live root
 root-live : (W : ℕ) (b : List ℕ) (height top r n : ℕ) → n ≢ 0 → rootSound W b height top r n ≡ (leb (r % W) height && sound W b top (r % W) (r / W) n)
@@ -77,9 +88,9 @@ module _ (g : Layout) (b : List ℕ) {m m₁ : List ℕ} {top p k : ℕ} {ok₁ 
   pub all-inode : {m′ : List ℕ} → ok₁ ≡ false → Marked (pointersSound g b) (liveBlocks g b) m false m′
   unfolding liveBlocks
   all-inode z = rw (← inode-is, ← et)
-      (Marking.fall (every (g .leaves) (leafSound g b) && every (files g) (fileSound g b)) (tabulate (g .leaves) (leaf g b) ++ joined (files g) (fileBlocks g b)) c z)
+      (Marking.fall (inodesSound g b && every (files g) (fileSound g b)) (tabulate (g .leaves) (leaf g b) ++ joined (files g) (fileBlocks g b)) c z)
 
-  module _ {m₂ : List ℕ} {ok₂ : Bool} (z : ok₁ ≡ true) (d : Marked (every (g .leaves) (leafSound g b)) (tabulate (g .leaves) (leaf g b)) m₁ ok₂ m₂) where
+  module _ {m₂ : List ℕ} {ok₂ : Bool} (z : ok₁ ≡ true) (d : Marked (inodesSound g b) (tabulate (g .leaves) (leaf g b)) m₁ ok₂ m₂) where
     pub all-leaves : {m′ : List ℕ} → ok₂ ≡ false → Marked (pointersSound g b) (liveBlocks g b) m false m′
     unfolding liveBlocks
     all-leaves y = rw (← inode-is, ← et) (Marking.both c z (Marking.fall (every (files g) (fileSound g b)) (joined (files g) (fileBlocks g b)) d y))

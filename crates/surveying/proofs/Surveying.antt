@@ -14,7 +14,7 @@ use Rattle.model.specs.declared.Answer.{Answer}
 use Rattle.model.specs.declared.Answer.the-variants.{Done, Refused}
 use Rattle.model.specs.Lists.{every, pickFrom, member, distinct}
 use Rattle.model.specs.Layout.{Layout, files}
-use Rattle.model.specs.Board.{blockCount, liveBlocks, free, wordCountSound, trailerSound, leafSound, fileSound, treesSound, accepted}
+use Rattle.model.specs.Board.{blockCount, liveBlocks, free, wordCountSound, trailerSound, inodesSound, fileSound, treesSound, accepted}
 use Rattle.model.specs.Answers.{answered}
 use Rattle.model.specs.Calls.{wordCountFault, boardFaults, checkAnswer}
 use Rattle.model.proofs.Cases.{is-true, and-left, and-right, true-left, true-right}
@@ -30,8 +30,8 @@ and-same false y z f = refl
 
 module _ (g : Layout) (pos : 0 < g .words) (few : g .most ≤ 1024) (b : List ℕ) where
   -- every pointer but the inode root
-  abbrev inodesSound : Bool
-  inodesSound = every (g .leaves) (leafSound g b) && every (files g) (fileSound g b)
+  abbrev others : Bool
+  others = inodesSound g b && every (files g) (fileSound g b)
 
   pub short : wordCountSound g b ≡ true → blockCount g b - 1 ≤ 1024
   unfolding wordCountSound blockCount
@@ -42,14 +42,14 @@ module _ (g : Layout) (pos : 0 < g .words) (few : g .most ≤ 1024) (b : List �
       omega (arith, div-le-of-le-mul (g .words) {m = length b} {n = g .most} (omega (arith, mul-comm (g .words) (g .most))))
 
   module _ (w : wordCountSound g b ≡ true) (t : trailerSound g b ≡ true) where
-    within : inodesSound ≡ true → below 1024 (liveBlocks g b) ≡ true
+    within : others ≡ true → below 1024 (liveBlocks g b) ≡ true
     within s = below-more (blockCount g b - 1) 1024 (liveBlocks g b) (short w) (live-below g b pos t s)
 
     -- what the marks find is what the definition asks
     accept : (pointersSound g b && unmarked (replicate 1024 0) (liveBlocks g b)) ≡ treesSound g b
     unfolding treesSound
     accept = rw (inode-below g b t)
-        (and-same inodesSound (unmarked (replicate 1024 0) (liveBlocks g b)) (distinct (liveBlocks g b)) (λ s. unmarked-zeros 1024 (liveBlocks g b) (within s)))
+        (and-same others (unmarked (replicate 1024 0) (liveBlocks g b)) (distinct (liveBlocks g b)) (λ s. unmarked-zeros 1024 (liveBlocks g b) (within s)))
 
     found : {ok : Bool} {m m′ : List ℕ} → m ≡ replicate 1024 0 → Marked (pointersSound g b) (liveBlocks g b) m ok m′ → ok ≡ treesSound g b
     found pre c = rw pre at (c .answer) ∙ accept
@@ -58,7 +58,7 @@ module _ (g : Layout) (pos : 0 < g .words) (few : g .most ≤ 1024) (b : List �
     unfolding treesSound free
     free-marks e =
         pick-same 1 (blockCount g b - 2) (spare (marked (replicate 1024 0) (liveBlocks g b))) (λ k. not (member k (liveBlocks g b)))
-        (λ k. spare-live 1024 (liveBlocks g b) k (within (true-left inodesSound (distinct (liveBlocks g b)) e)))
+        (λ k. spare-live 1024 (liveBlocks g b) k (within (true-left others (distinct (liveBlocks g b)) e)))
 
 -- the answer is the first fault's
 answer-shape : (g : Layout) (b : List ℕ) → checkAnswer g b

@@ -9,13 +9,13 @@ use Rattle.model.specs.declared.Answer.{Answer}
 use Rattle.model.specs.declared.Answer.the-variants.{Done}
 use Rattle.model.specs.Lists.{every, pickFrom}
 use Rattle.model.specs.Layout.{Layout, files}
-use Rattle.model.specs.Board.{blockCount, inodeBlock, liveBlocks, leafSound, fileSound}
+use Rattle.model.specs.Board.{blockCount, inodeBlock, liveBlocks, inodesSound, fileSound}
 use Rattle.model.specs.Calls.{checkAnswer}
 use Rattle.trees.specs.Marks.{marked}
 
--- the inode pointer block lies below the trailer, and every inode pointer, size and live pointer is as it must be
+-- the inode pointer block lies below the trailer, and every word of it, size and live pointer is as it must be
 abbrev pub pointersSound : Layout → List ℕ → Bool
-pointersSound g b = ltb (inodeBlock g b) (blockCount g b - 1) && (every (g .leaves) (leafSound g b) && every (files g) (fileSound g b))
+pointersSound g b = ltb (inodeBlock g b) (blockCount g b - 1) && (inodesSound g b && every (files g) (fileSound g b))
 
 -- a block that marks have free
 abbrev pub spare : List ℕ → ℕ → Bool

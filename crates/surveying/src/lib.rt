@@ -3,6 +3,7 @@ use boards::inode_pointer;
 use boards::last;
 use boards::root;
 use boards::size;
+use boards::spares_sound;
 use boards::trailer;
 use boards::trailer_sound;
 use boards::word_count_sound;
@@ -24,7 +25,7 @@ ghost use Prim.Native.Nat.{_-_, _≤_};
 ghost use lib.ListN.{length, replicate};
 ghost use Rattle.model.specs.Lists.{tabulate, joined, every, pickFrom};
 ghost use Rattle.model.specs.Layout.{layoutOf, files};
-ghost use Rattle.model.specs.Board.{leaf, fileBlocks, liveBlocks, leafSound, fileSound};
+ghost use Rattle.model.specs.Board.{leaf, fileBlocks, liveBlocks, leafSound, inodesSound, fileSound};
 ghost use Rattle.trees.specs.Marks.{Marked};
 ghost use Rattle.kinds.specs.Figures.{Bits};
 ghost use Rattle.surveying.specs.Survey.{pointersSound, spare, Surveyed, Listed};
@@ -60,6 +61,16 @@ fn leaves(kind: Kind, board: &[u64], marks: &mut [u64]) -> bool
         l += 1;
     }
     true
+}
+
+// The same of all words of the inode pointer block.
+fn pointers(kind: Kind, board: &[u64], marks: &mut [u64]) -> bool
+    ensures { λ r. ⌜ Marked (inodesSound (layoutOf kind) (now (board .entry))) (tabulate (layoutOf kind .leaves) (leaf (layoutOf kind) (now (board .entry)))) (now (marks .entry)) r (now (marks .exit)) ⌝ }
+{
+    if !spares_sound(kind, board) {
+        return false;
+    }
+    leaves(kind, board, marks)
 }
 
 // Marks the live blocks of file f; whether its size and its tree are as they must be and none of them was marked before.
@@ -108,7 +119,7 @@ fn live(kind: Kind, bits: u64, board: &[u64], marks: &mut [u64]) -> bool
     if !claim(marks, top, k) {
         return false;
     }
-    if !leaves(kind, board, marks) {
+    if !pointers(kind, board, marks) {
         return false;
     }
     files(kind, bits, board, marks)

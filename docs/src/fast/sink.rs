@@ -3,10 +3,9 @@
 use crate::BARRIER;
 
 pub trait Sink {
-    const LAYS: bool;
     fn pair(&mut self, at: u64, value: u64);
-    /// So many pairs that are counted only.
-    fn skip(&mut self, pairs: u64);
+    /// Words for the addresses from `at` on.
+    fn row(&mut self, at: u64, words: impl ExactSizeIterator<Item = u64>);
     fn count(&self) -> u64;
 
     /// Ends a step that began at the count `from`: a barrier after hidden stores, and the commit.
@@ -24,14 +23,12 @@ pub struct Counter {
 }
 
 impl Sink for Counter {
-    const LAYS: bool = false;
-
     fn pair(&mut self, _: u64, _: u64) {
         self.pairs += 1;
     }
 
-    fn skip(&mut self, pairs: u64) {
-        self.pairs += pairs;
+    fn row(&mut self, _: u64, words: impl ExactSizeIterator<Item = u64>) {
+        self.pairs += words.len() as u64;
     }
 
     fn count(&self) -> u64 {
@@ -45,16 +42,22 @@ pub struct Layer<'a> {
 }
 
 impl Sink for Layer<'_> {
-    const LAYS: bool = true;
-
     fn pair(&mut self, at: u64, value: u64) {
         self.plan[2 * self.pairs] = at;
         self.plan[2 * self.pairs + 1] = value;
         self.pairs += 1;
     }
 
-    fn skip(&mut self, pairs: u64) {
-        self.pairs += pairs as usize;
+    // The room for a row is tested once.
+    #[inline(always)]
+    fn row(&mut self, at: u64, words: impl ExactSizeIterator<Item = u64>) {
+        let count = words.len();
+        let room = &mut self.plan[2 * self.pairs..][..2 * count];
+        for ((at, word), pair) in (at..).zip(words).zip(room.chunks_exact_mut(2)) {
+            pair[0] = at;
+            pair[1] = word;
+        }
+        self.pairs += count;
     }
 
     fn count(&self) -> u64 {

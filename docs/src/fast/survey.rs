@@ -1,34 +1,29 @@
 //! Whether a board is accepted, and the marks of its live blocks.
 
-use crate::{BLOCKS, GREATEST, SPAN};
+use crate::layout::{Layout, BLOCKS};
 
-pub struct Survey {
+pub struct Survey<const W: usize> {
     live: [bool; BLOCKS],
     /// The trailer.
     top: u64,
 }
 
-pub fn word_count_fits(board: &[u64]) -> bool {
-    (128..=8192).contains(&board.len()) && board.len() % 8 == 0
+/// Without an end at the first other word, so that several are looked at at once.
+fn all_zero(words: &[u64]) -> bool {
+    words.iter().fold(0, |bits, word| bits | word) == 0
 }
 
-/// The address of a file's root word, on an accepted board.
-pub fn inode(board: &[u64], file: u64) -> u64 {
-    let inodes = board[board.len() - 8] / 8;
-    board[(8 * inodes + file / 4) as usize] / 8 * 8 + 2 * (file % 4)
-}
-
-impl Survey {
+impl<const W: usize> Survey<W> {
     /// The refusal where the board is not accepted.
-    pub fn of(board: &[u64]) -> Result<Survey, i64> {
-        if !word_count_fits(board) {
+    pub fn of(board: &[u64]) -> Result<Self, i64> {
+        if !Layout::<W>::word_count_fits(board) {
             return Err(-1);
         }
-        let blocks = board.len() as u64 / 8;
-        let trailer = &board[board.len() - 8..];
-        let inodes = trailer[0] / 8;
-        let rest = [512, blocks, 1, 0, 0, 0, 0];
-        if trailer[0] % 8 != 1 || inodes == 0 || inodes >= blocks - 1 || trailer[1..] != rest {
+        let blocks = board.len() as u64 / Layout::<W>::WIDTH;
+        let trailer = &board[board.len() - W..];
+        let (inodes, low) = (trailer[0] / Layout::<W>::WIDTH, trailer[0] % Layout::<W>::WIDTH);
+        let figures = [512, blocks, Layout::<W>::MARK];
+        if low != 1 || inodes == 0 || inodes >= blocks - 1 || trailer[1..4] != figures || !all_zero(&trailer[4..]) {
             return Err(-2);
         }
         let mut survey = Survey { live: [false; BLOCKS], top: blocks - 1 };
@@ -60,24 +55,27 @@ impl Survey {
         true
     }
 
-    /// The inode pointer block and what it points to.
+    /// The inode pointer block and what it points to; its other words are 0.
     fn leaves(&mut self, board: &[u64], inodes: u64) -> bool {
+        let words = &board[W * inodes as usize..][..W];
+        let (pointers, spare) = words.split_at(Layout::<W>::LEAVES as usize);
         let mut sound = self.claim(inodes);
-        for leaf in 0..8 {
-            let pointer = board[(8 * inodes + leaf) as usize];
-            sound = sound && pointer % 8 == 0 && self.claim(pointer / 8);
+        for pointer in pointers {
+            sound = sound && pointer % Layout::<W>::WIDTH == 0 && self.claim(pointer / Layout::<W>::WIDTH);
         }
-        sound
+        sound && all_zero(spare)
     }
 
     fn file(&mut self, board: &[u64], file: u64) -> bool {
-        let at = inode(board, file) as usize;
+        let at = Layout::<W>::inode(board, file) as usize;
         let (root, size) = (board[at], board[at + 1]);
-        size <= GREATEST && (size == 0 || root % 8 <= 3 && self.crawl(board, (root % 8) as usize, root / 8, size))
+        let (block, height) = (root / Layout::<W>::WIDTH, root % Layout::<W>::WIDTH);
+        size <= Layout::<W>::GREATEST
+            && (size == 0 || height <= Layout::<W>::TALLEST && self.crawl(board, height, block, size))
     }
 
     /// A tree of which so many bytes lie below the size.
-    fn crawl(&mut self, board: &[u64], height: usize, block: u64, bytes: u64) -> bool {
+    fn crawl(&mut self, board: &[u64], height: u64, block: u64, bytes: u64) -> bool {
         if block == 0 || bytes == 0 {
             return true;
         }
@@ -87,15 +85,16 @@ impl Survey {
         if height == 0 {
             return true;
         }
-        for j in 0..8u64 {
-            let first = j * SPAN[height - 1];
-            if first >= bytes {
+        let mut rest = bytes;
+        for pointer in &board[W * block as usize..][..W] {
+            if rest == 0 {
                 break;
             }
-            let pointer = board[(8 * block + j) as usize];
-            if pointer % 8 != 0 || !self.crawl(board, height - 1, pointer / 8, bytes - first) {
+            let (below, low) = (pointer / Layout::<W>::WIDTH, pointer % Layout::<W>::WIDTH);
+            if low != 0 || !self.crawl(board, height - 1, below, rest) {
                 return false;
             }
+            rest = rest.saturating_sub(Layout::<W>::span(height - 1));
         }
         true
     }

@@ -5,7 +5,8 @@ use native.Mathlib.Nat.{add-assoc, mod-lt}
 use native.Mathlib.Omega.{arith}
 use Rattle.model.specs.Tree.{cell}
 use Rattle.model.specs.Board.{leaf, rootAddress}
-use Rattle.kinds.proofs.Figures.{fits, few-words}
+use Rattle.model.proofs.Formatted.{fits}
+use Rattle.kinds.proofs.Figures.{few-words}
 use Rattle.boards.proofs.inode_word.Statement.{statement}
 use Rattle.boards.proofs.inode_word.Tie as tie
 

@@ -5,7 +5,8 @@ use native.Mathlib.Omega.{arith}
 use Rattle.model.specs.Layout.{layoutOf}
 use Rattle.model.specs.Board.{linkedWord}
 use Rattle.model.proofs.Shown.{slot}
-use Rattle.kinds.proofs.Figures.{fits, few-words}
+use Rattle.model.proofs.Formatted.{fits}
+use Rattle.kinds.proofs.Figures.{few-words}
 use Rattle.boards.proofs.linked_word.Statement.{statement}
 use Rattle.boards.proofs.linked_word.Tie as tie
 

@@ -6,7 +6,8 @@ use borrow.Author.Needs.{needs}
 use borrow.Author.Tests.{le-leb, lt-leb}
 use Rattle.model.specs.Layout.{layoutOf}
 use Rattle.model.specs.Board.{wordCountSound}
-use Rattle.kinds.proofs.Figures.{fits, few-words}
+use Rattle.model.proofs.Formatted.{fits}
+use Rattle.kinds.proofs.Figures.{few-words}
 use Rattle.boards.proofs.word_count_sound.Statement.{statement}
 use Rattle.boards.proofs.word_count_sound.Tie as tie
 

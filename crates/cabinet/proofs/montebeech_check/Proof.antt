@@ -1,5 +1,6 @@
 use borrow.Author.Needs.{needs}
 use Rattle.images.proofs.Boards.{length-part}
+use Rattle.model.specs.declared.Kind.the-variants.{House}
 use Rattle.reading.proofs.Bounds.{check-small}
 use Rattle.cabinet.proofs.Answers.{checked}
 use Rattle.cabinet.proofs.montebeech_check.Statement.{statement}
@@ -9,7 +10,7 @@ slice-aggregate-check : tie.Need-slice-aggregate-check
 slice-aggregate-check c = length-part (c .before .before .load .ensures)
 
 signed-requires : tie.Need-signed-requires
-signed-requires c κs = check-small _ (c .check .ensures)
+signed-requires c κs = check-small House _ (c .check .ensures)
 
 returns : tie.Need-returns
 returns c = let r = c .before in

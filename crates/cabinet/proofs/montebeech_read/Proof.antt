@@ -1,6 +1,7 @@
 use borrow.Author.Needs.{needs}
 use native.Mathlib.Omega.{arith}
 use Rattle.images.proofs.Boards.{length-part}
+use Rattle.model.specs.declared.Kind.the-variants.{House}
 use Rattle.reading.proofs.Bounds.{read-small}
 use Rattle.cabinet.proofs.Answers.{read}
 use Rattle.cabinet.proofs.montebeech_read.Statement.{statement}
@@ -10,7 +11,7 @@ slice-aggregate-read : tie.Need-slice-aggregate-read
 slice-aggregate-read c = length-part (c .before .before .load .ensures)
 
 signed-requires : tie.Need-signed-requires
-signed-requires c κs = read-small _ (omega arith) (c .before .before .read .ensures)
+signed-requires c κs = read-small House _ (omega arith) (c .before .before .read .ensures)
 
 returns : tie.Need-returns
 returns c = let r = c .before .before .before in

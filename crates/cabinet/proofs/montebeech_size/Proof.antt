@@ -1,5 +1,6 @@
 use borrow.Author.Needs.{needs}
 use Rattle.images.proofs.Boards.{length-part}
+use Rattle.model.specs.declared.Kind.the-variants.{House}
 use Rattle.reading.proofs.Bounds.{size-small}
 use Rattle.cabinet.proofs.Answers.{sized}
 use Rattle.cabinet.proofs.montebeech_size.Statement.{statement}
@@ -9,7 +10,7 @@ slice-aggregate-size : tie.Need-slice-aggregate-size
 slice-aggregate-size c = length-part (c .before .before .load .ensures)
 
 signed-requires : tie.Need-signed-requires
-signed-requires c κs = size-small _ _ (c .size .ensures)
+signed-requires c κs = size-small House _ _ (c .size .ensures)
 
 returns : tie.Need-returns
 returns c = let r = c .before in

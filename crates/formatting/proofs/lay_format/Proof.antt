@@ -5,7 +5,8 @@ use Prim.Native.Nat.{ℕ, _+_}
 use lib.ListN.{length}
 use Rattle.model.specs.Layout.{layoutOf}
 use Rattle.model.specs.Board.{blockCount}
-use Rattle.kinds.proofs.Figures.{fits, words-pos}
+use Rattle.model.proofs.Formatted.{fits}
+use Rattle.kinds.proofs.Figures.{words-pos}
 use Rattle.formatting.proofs.Formatting.{format-laid, trailer-room}
 use Rattle.formatting.proofs.lay_format.Statement.{statement}
 use Rattle.formatting.proofs.lay_format.Tie as tie

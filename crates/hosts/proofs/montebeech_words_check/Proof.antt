@@ -1,11 +1,12 @@
 use borrow.Author.Needs.{needs}
 use Rattle.reading.proofs.Bounds.{check-small}
-use Rattle.hosts.proofs.Answers.{as-signed}
+use Rattle.forms.proofs.Answers.{as-signed}
+use Rattle.model.specs.declared.Kind.the-variants.{House}
 use Rattle.hosts.proofs.montebeech_words_check.Statement.{statement}
 use Rattle.hosts.proofs.montebeech_words_check.Tie as tie
 
 signed-requires : tie.Need-signed-requires
-signed-requires c κs = check-small _ (c .check .ensures)
+signed-requires c κs = check-small House _ (c .check .ensures)
 
 returns : tie.Need-returns
 returns c = as-signed (record { sfits = c .signed .ok }) (c .signed .ensures) (c .before .check .ensures)

@@ -1,12 +1,13 @@
 use native.Mathlib.Omega.{arith}
 use borrow.Author.Needs.{needs}
 use Rattle.reading.proofs.Bounds.{free-small}
-use Rattle.hosts.proofs.Answers.{as-signed}
+use Rattle.forms.proofs.Answers.{as-signed}
+use Rattle.model.specs.declared.Kind.the-variants.{House}
 use Rattle.hosts.proofs.montebeech_words_free_count.Statement.{statement}
 use Rattle.hosts.proofs.montebeech_words_free_count.Tie as tie
 
 signed-requires : tie.Need-signed-requires
-signed-requires c κs = free-small _ (omega arith) (c .free-count .ensures)
+signed-requires c κs = free-small House _ (omega arith) (c .free-count .ensures)
 
 returns : tie.Need-returns
 returns c = as-signed (record { sfits = c .signed .ok }) (c .signed .ensures) (c .before .free-count .ensures)

@@ -1,11 +1,12 @@
 use native.Mathlib.Omega.{arith}
 use borrow.Author.Needs.{needs}
-use Rattle.hosts.proofs.Answers.{length-small, plan-signed}
+use Rattle.forms.proofs.Answers.{length-small, plan-signed}
+use Rattle.model.specs.declared.Kind.the-variants.{House}
 use Rattle.hosts.proofs.montebeech_words_set_length.Statement.{statement}
 use Rattle.hosts.proofs.montebeech_words_set_length.Tie as tie
 
 signed-requires : tie.Need-signed-requires
-signed-requires c κs = length-small _ _ (omega arith) _ _ (c .before .before .set-length .ensures)
+signed-requires c κs = length-small House _ _ (omega arith) _ _ (c .before .before .set-length .ensures)
 
 returns : tie.Need-returns
 returns c = plan-signed (record { sfits = c .signed .ok }) (c .signed .ensures) (c .before .before .before .set-length .ensures)

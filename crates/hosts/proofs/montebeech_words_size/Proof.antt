@@ -1,11 +1,12 @@
 use borrow.Author.Needs.{needs}
 use Rattle.reading.proofs.Bounds.{size-small}
-use Rattle.hosts.proofs.Answers.{as-signed}
+use Rattle.forms.proofs.Answers.{as-signed}
+use Rattle.model.specs.declared.Kind.the-variants.{House}
 use Rattle.hosts.proofs.montebeech_words_size.Statement.{statement}
 use Rattle.hosts.proofs.montebeech_words_size.Tie as tie
 
 signed-requires : tie.Need-signed-requires
-signed-requires c κs = size-small _ _ (c .size .ensures)
+signed-requires c κs = size-small House _ _ (c .size .ensures)
 
 returns : tie.Need-returns
 returns c = as-signed (record { sfits = c .signed .ok }) (c .signed .ensures) (c .before .size .ensures)

@@ -6,7 +6,7 @@ use Rattle.model.specs.declared.WalkEnd.the-variants.{Block}
 use Rattle.model.specs.Layout.{house}
 use Rattle.model.specs.Board.{walkTo}
 use Rattle.reading.proofs.Bounds.{walk-small}
-use Rattle.hosts.proofs.Answers.{ended-hole, ended-block}
+use Rattle.hosts.proofs.Ends.{ended-hole, ended-block}
 use Rattle.hosts.proofs.montebeech_words_walk.Statement.{statement}
 use Rattle.hosts.proofs.montebeech_words_walk.Tie as tie
 

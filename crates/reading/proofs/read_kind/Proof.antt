@@ -1,7 +1,8 @@
 use borrow.Author.Needs.{needs}
 use Rattle.model.specs.Layout.{layoutOf}
 use Rattle.model.proofs.Accepting.{facts}
-use Rattle.kinds.proofs.Figures.{fits, reach}
+use Rattle.model.proofs.Formatted.{fits}
+use Rattle.kinds.proofs.Figures.{reach}
 use Rattle.reading.proofs.Answering.{read-refused, read-bytes}
 use Rattle.surveying.proofs.FileNumbers.{file-found}
 use Rattle.reading.proofs.read_kind.Statement.{statement}

@@ -18,12 +18,12 @@ returns-2 c =
     let t = d .before in
     let a = t .before .before .before .before .args in
     all-leaves (layoutOf (a .kind)) (a .board .now) (t .before .last .ensures) (t .trailer .ensures) (d .block-in .ensures) (k .claim .ensures) (not-false _ (i .if1 .left))
-    (l .leaves .ensures) (not-true _ (c .if2 .taken))
+    (l .pointers .ensures) (not-true _ (c .if2 .taken))
 
 returns-3 : tie.Need-returns-3
 returns-3 c = let f = c .before .before in let j = f .before .before in let l = j .before .before .before in
     let i = l .before .before in let k = i .before .before .before in let d = k .before .before in let t = d .before in let a = t .before .before .before .before .args in
-    all-files (layoutOf (a .kind)) (a .board .now) (t .before .last .ensures) (t .trailer .ensures) (d .block-in .ensures) (k .claim .ensures) (not-false _ (i .if1 .left)) (l .leaves .ensures)
+    all-files (layoutOf (a .kind)) (a .board .now) (t .before .last .ensures) (t .trailer .ensures) (d .block-in .ensures) (k .claim .ensures) (not-false _ (i .if1 .left)) (l .pointers .ensures)
     (not-false _ (j .if2 .left)) (f .files .ensures)
 
 pub live-spec : {M : Type 1} → statement M

@@ -7,8 +7,8 @@ use Prim.Native.Nat.{ℕ, _*_, _^_, _≤_, _<_}
 use native.Mathlib.Omega.{arith}
 use lib.ListN.{length, take}
 use lib.Dec.{ltb}
-use lib.IntN.{ℤ, pos}
-use mir.Facts.{toZ-pos, toZ-ofZ}
+use lib.IntN.{ℤ}
+use mir.Facts.{toZ-ofZ}
 use mir.Syntax.{w64}
 use mir.Val.{SFits, toZ, ofZ}
 use borrow.Author.Tests.{lt-ltb}
@@ -16,35 +16,25 @@ use Rattle.model.specs.declared.Answer.{Answer}
 use Rattle.model.specs.declared.Answer.the-variants.{Refused}
 use Rattle.model.specs.declared.Fault.{Fault}
 use Rattle.model.specs.declared.Fault.the-variants.{End, PlanLength, PairCount, Address}
-use Rattle.model.specs.declared.WalkEnd.{WalkEnd}
-use Rattle.model.specs.declared.WalkEnd.the-variants.{Block, Hole}
 use Rattle.model.specs.Lists.{all}
-use Rattle.model.specs.Layout.{house}
+use Rattle.model.specs.declared.Kind.{Kind}
+use Rattle.model.specs.Layout.{layoutOf}
 use Rattle.model.specs.Board.{greatest}
 use Rattle.model.specs.Store.{Store, isBarrier, paired}
 use Rattle.model.specs.Plan.{Plan, pairs}
 use Rattle.model.specs.Change.{writePlan, lengthPlan}
 use Rattle.model.specs.Format.{formatPlan}
-use Rattle.model.specs.Answers.{Faults, answered, counted, signed, ended}
+use Rattle.model.specs.Answers.{Faults, answered, counted, signed}
 use Rattle.model.specs.Calls.{wordCountFault, fileFaults, Planned, planned, lowest, writeFaults, writeFrom, write, setLength, format, performFaults, performAnswer}
 use Rattle.model.proofs.Cases.{split}
 use Rattle.plans.specs.Laying.{PlanResult}
 use Rattle.reading.proofs.Bounds.{counted-most}
 use Rattle.performing.specs.Results.{PerformResult}
-use Rattle.hosts.specs.Results.{WordsPlan}
+use Rattle.forms.specs.Results.{WordsPlan}
 
 -- the number is the answer's
 pub as-signed : {r a : Answer} {s : ℤ} → SFits w64 s → s ≡ signed r → r ≡ a → toZ w64 (ofZ w64 s) ≡ signed a
 as-signed fits e ea = toZ-ofZ fits ∙ e ∙ ap signed ea
-
--- where a walk ended
-pub ended-hole : {w : WalkEnd} → w ≡ Hole → pos 0 ≡ ended w
-unfolding ended
-ended-hole e = rw e
-
-pub ended-block : {w : WalkEnd} {k : ℕ} → w ≡ Block k → k < 2 ^ 63 → toZ w64 k ≡ ended w
-unfolding ended
-ended-block e small = rw e (toZ-pos w64 small)
 
 -- a fault that is found leaves nothing to count
 found-none : (fs gs : Faults) (x : Fault) (n : ℕ) → counted (answered (fs ++ ((x, true) ∷ gs)) n) ≤ 0
@@ -69,25 +59,25 @@ plan-small : (faults : Faults) (ss : List Store) (slice : List ℕ) → length s
 unfolding planned
 plan-small faults ss slice l = pairs-fit faults [] PlanLength slice (length ss) l
 
-module _ (b slice : List ℕ) {r : Answer} {slice′ : List ℕ} (l : length slice < 2 ^ 64) where
-  pub format-small : PlanResult (format house b slice) r slice′ → counted r < 2 ^ 63
+module _ (k : Kind) (b slice : List ℕ) {r : Answer} {slice′ : List ℕ} (l : length slice < 2 ^ 64) where
+  pub format-small : PlanResult (format (layoutOf k) b slice) r slice′ → counted r < 2 ^ 63
   unfolding format
-  format-small e = rw (e .answer) (plan-small (wordCountFault house b) (pairs (formatPlan house b)) slice l)
+  format-small e = rw (e .answer) (plan-small (wordCountFault (layoutOf k) b) (pairs (formatPlan (layoutOf k) b)) slice l)
 
-  pub write-small : (f o : ℕ) (new : List ℕ) → PlanResult (write house b f o new slice) r slice′ → counted r < 2 ^ 63
+  pub write-small : (f o : ℕ) (new : List ℕ) → PlanResult (write (layoutOf k) b f o new slice) r slice′ → counted r < 2 ^ 63
   unfolding write writeFrom
-  write-small f o new e = let p : Plan = writePlan house (lowest house b) b f o new in rw (e .answer) (plan-small (writeFaults house b f o new p) (pairs p) slice l)
+  write-small f o new e = let p : Plan = writePlan (layoutOf k) (lowest (layoutOf k) b) b f o new in rw (e .answer) (plan-small (writeFaults (layoutOf k) b f o new p) (pairs p) slice l)
 
-  pub length-small : (f n : ℕ) → PlanResult (setLength house b f n slice) r slice′ → counted r < 2 ^ 63
+  pub length-small : (f n : ℕ) → PlanResult (setLength (layoutOf k) b f n slice) r slice′ → counted r < 2 ^ 63
   unfolding setLength
-  length-small f n e = rw (e .answer) (plan-small (fileFaults house b f ++ ((End, ltb (greatest house) n) ∷ [])) (pairs (lengthPlan house b f n)) slice l)
+  length-small f n e = rw (e .answer) (plan-small (fileFaults (layoutOf k) b f ++ ((End, ltb (greatest (layoutOf k)) n) ∷ [])) (pairs (lengthPlan (layoutOf k) b f n)) slice l)
 
 pub plan-signed : {p : Planned} {r : Answer} {s : ℤ} {slice′ : List ℕ} → SFits w64 s → s ≡ signed r → PlanResult p r slice′ → WordsPlan p (toZ w64 (ofZ w64 s)) slice′
 plan-signed fits e k = record { answer = as-signed fits e (k .answer); plan = k .plan }
 
 -- ---- Perform
 
-pub perform-small : {b slice b′ : List ℕ} {k : ℕ} {r : Answer} → length slice < 2 ^ 64 → PerformResult house b slice k r b′ → counted r < 2 ^ 63
+pub perform-small : (g : Kind) {b slice b′ : List ℕ} {k : ℕ} {r : Answer} → length slice < 2 ^ 64 → PerformResult (layoutOf g) b slice k r b′ → counted r < 2 ^ 63
 unfolding performAnswer performFaults
-perform-small {b} {slice} {k = k} l e = rw (e .answer) (pairs-fit (wordCountFault house b)
+perform-small g {b} {slice} {k = k} l e = rw (e .answer) (pairs-fit (wordCountFault (layoutOf g) b)
     ((Address, not (all (λ s. ltb (s .at) (length b) || isBarrier s) (take k (paired slice)))) ∷ []) PairCount slice k l)
