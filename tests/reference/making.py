@@ -33,7 +33,7 @@ def some_bytes(rnd, count):
 # ---- Boards by the model's own calls
 
 
-def room(words):
+def slice_for(words):
     """A slice for any plan on the board, which has fewer pairs than the board has words."""
     return [0] * (2 * len(words))
 
@@ -51,20 +51,20 @@ def accepted(words, planned, layout=B.HOUSE):
 
 
 def formatted(words, layout=B.HOUSE):
-    return accepted(words, B.format_board(words, room(words), layout), layout)
+    return accepted(words, B.format_board(words, slice_for(words), layout), layout)
 
 
 def with_writes(words, writes, layout=B.HOUSE):
     """The board after these writes, none of which may be refused: file, offset, bytes."""
     for file, offset, new in writes:
-        words = accepted(words, B.write(words, file, offset, list(new), room(words), layout), layout)
+        words = accepted(words, B.write(words, file, offset, list(new), slice_for(words), layout), layout)
     return words
 
 
 def with_lengths(words, lengths, layout=B.HOUSE):
     """The board after these length changes, none of which may be refused: file, length."""
     for file, length in lengths:
-        words = accepted(words, B.set_length(words, file, length, room(words), layout), layout)
+        words = accepted(words, B.set_length(words, file, length, slice_for(words), layout), layout)
     return words
 
 
@@ -73,10 +73,11 @@ def e2_board(words):
     return with_writes(formatted(words), [(0, 0, b'AB')])
 
 
-def offset_past(rnd, size):
+def offset_past(rnd, size, layout=B.HOUSE):
     """An offset past the end: nearby, where the next block or its node begins, or anywhere."""
-    return rnd.choice([size + 1, size + rnd.randrange(1, 9), size + rnd.randrange(1, 50), size // 64 * 64 + 64, size // 512 * 512 + 512,
-                       rnd.randrange(size + 1, 33000)])
+    data, node = layout.span[:2]
+    return rnd.choice([size + 1, size + rnd.randrange(1, 9), size + rnd.randrange(1, 50), size // data * data + data, size // node * node + node,
+                       rnd.randrange(size + 1, layout.most + 232)])
 
 
 # ---- Laid boards

@@ -23,7 +23,7 @@ impl Layout {
     /// or where that is above the span, it lies across the end of the span, past it, or past the size.
     pub fn growing_stretch(&self, random: &mut Random, (root, size): (u64, u64)) -> Option<(u64, usize)> {
         if size == 0 || self.span(root) == self.greatest() || random.one_in(2) {
-            return random.one_in(6).then(|| self.band_stretch(random));
+            return random.one_in(4).then(|| self.band_stretch(random));
         }
         let (span, few) = (self.span(root), 1 + random.below(20));
         let offset = match random.below(4) {

@@ -232,7 +232,7 @@ impl Layout {
     }
 
     /// The addresses of all live roots and file pointers of an accepted board.
-    fn all_live_pointers(&self, board: &[u64]) -> Vec<usize> {
+    pub fn all_live_pointers(&self, board: &[u64]) -> Vec<usize> {
         let mut found = Vec::new();
         for file in 0..FILES {
             let (root, size) = self.root_and_size(board, file);

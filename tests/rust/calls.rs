@@ -102,8 +102,8 @@ impl Calls {
     fn same_answer<L: Clone + PartialEq>(
         &mut self, kind: Kind, said: Arguments, lent: &[L], ours: impl FnOnce(&[L]) -> i64,
         document: impl FnOnce(&[L]) -> Answer,
-    ) {
-        self.same::<u8, L>(kind, said, lent, &[], |lent, _| ours(lent), |_| document(lent));
+    ) -> i64 {
+        self.same::<u8, L>(kind, said, lent, &[], |lent, _| ours(lent), |_| document(lent)).0
     }
 
     /// A read into a buffer of so many bytes.
@@ -118,11 +118,11 @@ impl Calls {
 
     // ---- On words
 
-    pub fn check(&mut self, board: &[u64]) {
+    pub fn check(&mut self, board: &[u64]) -> i64 {
         let (library, layout) = (self.library, self.layout);
         let said = format_args!("of {} words", board.len());
         let ours = |board: &[u64]| library.check(board);
-        self.same_answer(Kind::Check, said, board, ours, |board| document::check(layout, board));
+        self.same_answer(Kind::Check, said, board, ours, |board| document::check(layout, board))
     }
 
     pub fn free_count(&mut self, board: &[u64]) {

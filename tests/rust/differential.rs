@@ -5,9 +5,11 @@
 //!     differential [published] SEED CALLS [ROUND]    rounds of the seed from ROUND on, until CALLS calls were compared
 
 mod calls;
+mod damages;
 mod walks;
 
 use calls::Calls;
+use damages::Damages;
 use probes::PUBLISHED;
 use std::io::Write;
 use std::process::{Command, Stdio};
@@ -56,8 +58,8 @@ static ON_PUBLISHED: Trial = Trial {
     on_images: false,
     sweeps: 1,
     swept: &[16, 17, 24],
-    copies: 12,
-    enough: 10_000,
+    copies: 4,
+    enough: 40_000,
 };
 
 struct Test {
@@ -67,6 +69,7 @@ struct Test {
     layout: &'static Layout,
     calls: Calls,
     ways: Ways,
+    damages: Damages,
     pool: Vec<u8>,
 }
 
@@ -390,6 +393,9 @@ impl Test {
         self.images(&board, &few);
         if self.accepted(&board) {
             self.damaged_copies(&board, &few);
+            if self.random.one_in(2) {
+                self.damages.round(self.layout, &mut self.random, &mut self.calls, &board);
+            }
         }
         if self.random.one_in(4) && self.accepted(&board) {
             self.layout.damage(&mut self.random, &mut board);
@@ -417,7 +423,7 @@ impl Test {
         let mut random = Random::new(seed, u64::MAX);
         let pool = random.bytes(layout.greatest() as usize + 7232);
         let calls = Calls::of(library, trial.document, trial.on_images);
-        Test { random, trial, library, layout, calls, ways: Ways::of(library), pool }
+        Test { random, trial, library, layout, calls, ways: Ways::of(library), damages: Damages::default(), pool }
     }
 
     fn rounds(&mut self, words: &Words, walks: &mut Walks) {
@@ -449,10 +455,12 @@ fn main() {
     drop(std::panic::take_hook());
     test.calls.report();
     test.ways.report();
+    test.damages.report();
     if words.wanted >= trial.enough {
         test.calls.all_met();
         test.ways.all_met();
         test.ways.empty_met();
+        test.damages.all_met();
     }
     if !words.published {
         bands_are_spans();

@@ -192,9 +192,9 @@ pub fn spares_sound(kind: Kind, board: &[u64]) -> bool
     ensures { λ r. ⌜ r ≡ sparesSound (layoutOf kind) (now (board .entry)) ⌝ }
 {
     let first = leaf_count(kind);
-    let n = words_in(kind) - first;
+    let count = words_in(kind) - first;
     let mut j = 0;
-    while j < n {
+    while j < count {
         if inode_pointer(kind, board, first + j) != 0 {
             return false;
         }

@@ -74,9 +74,9 @@ impl<const W: usize> Survey<W> {
             && (size == 0 || height <= Layout::<W>::TALLEST && self.crawl(board, height, block, size))
     }
 
-    /// A tree of which so many bytes lie below the size.
+    /// A tree of which so many bytes, at least 1, lie below the size.
     fn crawl(&mut self, board: &[u64], height: u64, block: u64, bytes: u64) -> bool {
-        if block == 0 || bytes == 0 {
+        if block == 0 {
             return true;
         }
         if !self.claim(block) {

@@ -20,13 +20,13 @@ unfolding spareSound
 told g b j e x = rw (x, e)
 
 abbrev Inv-loop : tie.InvT-loop
-Inv-loop kind board first n j₀ j = (j ≤ n) × (every j (spareSound (layoutOf kind) board) ≡ true)
+Inv-loop kind board first count j₀ j = (j ≤ count) × (every j (spareSound (layoutOf kind) board) ≡ true)
 
 abbrev μ-loop : tie.MeasureT-loop
-μ-loop kind board first n j₀ j = n - j
+μ-loop kind board first count j₀ j = count - j
 
-sub-n : tie.Need-sub-n Inv-loop μ-loop
-sub-n c = let a = c .before .before .before .args in omega (arith, fits (a .kind) .leaves-fit, c .words-in .ensures .is, c .before .leaf-count .ensures)
+sub-count : tie.Need-sub-count Inv-loop μ-loop
+sub-count c = let a = c .before .before .before .args in omega (arith, fits (a .kind) .leaves-fit, c .words-in .ensures .is, c .before .leaf-count .ensures)
 
 -- so many spare pointers there are
 all : (c : tie.After-words-in Inv-loop μ-loop) → let a = c .before .before .before .args in let f = spareSound (layoutOf (a .kind)) (a .board .now) in
@@ -58,5 +58,5 @@ returns-2 c = let l = c .before in let w = l .before in let e : l .loop .j ≡ w
 
 pub spares-sound-spec : {M : Type 1} → statement M
 spares-sound-spec =
-    tie.close (tie.spec Inv-loop μ-loop (λ c κs. search needs) (λ c κs. search needs) sub-n loop-holds add-inode-pointer (λ c κs. search needs) returns (λ c. search needs)
+    tie.close (tie.spec Inv-loop μ-loop (λ c κs. search needs) (λ c κs. search needs) sub-count loop-holds add-inode-pointer (λ c κs. search needs) returns (λ c. search needs)
     (λ c. search needs) loop-again returns-2)
