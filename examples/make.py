@@ -5,7 +5,8 @@
     make.py --check    writes nothing; fails unless the files here are the ones that it would write
 
 Accepted: e2 (E2 of document 01), cabinet (a small cabinet's files), full (1,024 blocks, none free). The damaged ones are the cabinet's
-board with one change each; the number in the name is the refusal. listings.txt has the listing of each image, by the model too.
+board with one change each; the number in the name is the refusal. published is a sound board with the published block (N11), which the lister
+refuses by 2, since its last eight words are zeros and no trailer of the house's. listings.txt has the listing of each image, by the model too.
 """
 import os
 import struct
@@ -16,14 +17,14 @@ sys.path.insert(0, os.path.join(os.path.dirname(HERE), 'tests', 'reference'))
 import board as B
 from making import e2_board, formatted, image_of, with_writes
 
-SCORES, METER, INITIALS, NOTES = 0, 1, 2, 3
+SCORES, METER, INITIALS, NOTES, LOG = 0, 1, 2, 3, 4
 
 
 # ---- Accepted boards
 
 
-def with_files(blocks, files):
-    return with_writes(formatted([0] * (8 * blocks)), [(file, 0, new) for file, new in files])
+def with_files(blocks, files, layout=B.HOUSE):
+    return with_writes(formatted([0] * (layout.width * blocks), layout), [(file, 0, new) for file, new in files], layout)
 
 
 def records(line, count):
@@ -32,15 +33,25 @@ def records(line, count):
     return text.encode()[:count]
 
 
+def scores():
+    return b''.join(struct.pack('<8sQ', b'PLAYER%02d' % i, 100000 - 2500 * i) for i in range(30))
+
+
 def cabinet():
-    scores = b''.join(struct.pack('<8sQ', b'PLAYER%02d' % i, 100000 - 2500 * i) for i in range(30))
     notes = records('%03d coil and flipper rubber replaced\n', 200)
-    return with_files(32, [(SCORES, scores), (METER, struct.pack('<Q', 41897)), (INITIALS, b'MONBEE'), (NOTES, notes)])
+    return with_files(32, [(SCORES, scores()), (METER, struct.pack('<Q', 41897)), (INITIALS, b'MONBEE'), (NOTES, notes)])
 
 
 def full():
     sizes = [32768, 20000, 3500, 256, 60]
     return with_files(1024, [(file, records('%05d game over, coins 1\n', size)) for file, size in enumerate(sizes)])
+
+
+def published():
+    """Heights 0 and 1, and a log that begins with a hole: only its last block is there."""
+    notes = records('%05d coil and flipper rubber replaced\n', 9000)
+    words = with_files(16, [(SCORES, scores()), (METER, struct.pack('<Q', 41897)), (NOTES, notes)], B.PUBLISHED)
+    return with_writes(words, [(LOG, 20000, b'game over, coins 1\n')], B.PUBLISHED)
 
 
 # ---- Damage
@@ -126,7 +137,7 @@ def wrong_sizes():
 
 
 def images():
-    made = {'e2': image_of(e2_board([0] * 128)), 'cabinet': image_of(cabinet()), 'full': image_of(full())}
+    made = {'e2': image_of(e2_board([0] * 128)), 'cabinet': image_of(cabinet()), 'full': image_of(full()), 'published': image_of(published())}
     for name, image in wrong_sizes():
         made['damaged-' + name] = image
     for name, change in DAMAGED:
@@ -141,8 +152,10 @@ def listings(made):
 
 
 def as_named(name, image):
-    """A damaged image is refused by the number in its name, any other is accepted."""
+    """A damaged image is refused by the number in its name, the published board as one that is none of the house's; any other is accepted."""
     listed = B.listing(image)
+    if name.startswith('published'):
+        return listed == 'refused 2\n' and B.check(B.words_of(image), B.PUBLISHED) == 0
     return listed == 'refused %s\n' % name.split('-')[1] if name.startswith('damaged-') else listed.startswith('blocks ')
 
 

@@ -2,7 +2,7 @@
 //! 4,096 and 4,097 to 32,768 bytes"; published boards have two, which end at their spans. It is looked for in each plan;
 //! and how often each end of a band was met.
 
-use crate::layout::{Layout, HOUSE};
+use crate::layout::Layout;
 use crate::random::Random;
 
 impl Layout {
@@ -34,10 +34,6 @@ impl Layout {
         };
         Some((offset, (span.saturating_sub(offset) + few) as usize))
     }
-}
-
-pub fn stretch(random: &mut Random) -> (u64, usize) {
-    HOUSE.band_stretch(random)
 }
 
 /// Plans of writes that end at one of these sizes.

@@ -1,7 +1,7 @@
 //! Boards to test with. Those that are laid here are accepted and look as no history of calls leaves them: holes, null
 //! roots with a height, sizes above the span, and rubbish wherever a board may have any bits. Damage spoils one thing.
 
-use crate::layout::{Layout, HOUSE};
+use crate::layout::Layout;
 use crate::random::Random;
 
 pub const FILES: u64 = 32;
@@ -9,20 +9,6 @@ pub const FILES: u64 = 32;
 /// Room for every plan: none has more pairs than the board has words.
 pub fn room(board: &[u64]) -> usize {
     2 * board.len()
-}
-
-// ---- The house's boards
-
-pub fn block_count(random: &mut Random) -> u64 {
-    HOUSE.block_count(random)
-}
-
-pub fn laid(random: &mut Random, blocks: u64) -> Vec<u64> {
-    HOUSE.laid(random, blocks)
-}
-
-pub fn damage(random: &mut Random, board: &mut Vec<u64>) {
-    HOUSE.damage(random, board);
 }
 
 // ---- Laid boards

@@ -53,16 +53,18 @@ impl AddAssign for Tally {
 // ---- Cuts
 
 /// Says what is wrong with a board that a cut left, if anything is.
-fn fault(library: &Library, board: &[u64], change: &Change, last_arrived: bool) -> Option<String> {
+fn fault(
+    library: &Library, board: &[u64], change: &Change, last_arrived: bool, buffer: &mut Vec<u8>,
+) -> Option<String> {
     let checked = library.check(board);
     if checked != 0 {
         return Some(format!("the board is refused {}", -checked));
     }
-    let reads = |(file, content): (usize, &[u8])| library.reads_as(board, file as u64, content);
+    let mut reads = |file, content| library.reads_as(board, file as u64, content, buffer);
     for (file, before) in change.before.iter().enumerate() {
         let expected = if file == change.file && last_arrived { &change.after } else { before };
-        if !reads((file, expected)) {
-            let as_before = if reads((file, before)) { "as before" } else { "not as before" };
+        if !reads(file, expected) {
+            let as_before = if reads(file, before) { "as before" } else { "not as before" };
             return Some(format!("in a change of file {} file {file} reads {as_before}", change.file));
         }
     }
@@ -100,14 +102,15 @@ fn cut_in<T>(board: &mut [u64], epoch: &[Store], set: &[bool], found: impl FnOnc
 /// Every cut of the plan; the first that shows what it must not ends it.
 fn cut(trial: &Trial, random: &mut Random, board: &[u64], change: &Change) -> Result<Tally, String> {
     let mut tally = Tally::default();
-    let mut stands = board.to_vec();
+    let (mut stands, mut buffer) = (board.to_vec(), Vec::new());
     let epochs = epochs(&change.plan);
     for (at, epoch) in epochs.iter().enumerate() {
         let n = epoch.len();
         for set in tried_sets(trial, random, n) {
             // Where before and after are the same, either may stand for the other.
             let last_arrived = at + 1 == epochs.len() && set[n - 1];
-            let fault = cut_in(&mut stands, epoch, &set, |left| fault(trial.library, left, change, last_arrived));
+            let fault =
+                cut_in(&mut stands, epoch, &set, |left| fault(trial.library, left, change, last_arrived, &mut buffer));
             if let Some(fault) = fault {
                 let arrived = set.iter().filter(|&&arrived| arrived).count();
                 return Err(format!("{fault}: cut in epoch {at} of {}, {arrived} of {n} stores arrived", epochs.len()));

@@ -56,7 +56,7 @@ static ON_PUBLISHED: Trial = Trial {
     library: &PUBLISHED,
     document: &document::PUBLISHED,
     on_images: false,
-    sweeps: 1,
+    sweeps: 2,
     swept: &[16, 17, 24],
     copies: 4,
     enough: 40_000,
@@ -75,7 +75,7 @@ struct Test {
 
 // ---- Arguments
 
-/// No file, the spans, and numbers far above them.
+/// 0, the spans, and numbers far above them.
 fn bounds(layout: &Layout) -> Vec<u64> {
     [&[0], layout.spans, &[1 << 32, 1 << 63, u64::MAX]].concat()
 }
@@ -138,8 +138,18 @@ fn count(layout: &Layout, random: &mut Random, size: u64, offset: u64) -> usize 
     }
 }
 
+/// In the last word of a file, which may have other bytes past the size.
+fn in_last_word(random: &mut Random, size: u64) -> (u64, usize) {
+    let first = (size - 1) / 8 * 8;
+    let offset = first + random.below(size - first);
+    (offset, 1 + random.below(size - offset) as usize)
+}
+
 /// Where a write to a file of this root and size begins and how many bytes it has.
 fn stretch(layout: &Layout, random: &mut Random, (root, size): (u64, u64)) -> (u64, usize) {
+    if size > 0 && random.one_in(8) {
+        return in_last_word(random, size);
+    }
     layout.growing_stretch(random, (root, size)).unwrap_or_else(|| {
         let offset = write_offset(layout, random, size);
         (offset, count(layout, random, size, offset))
@@ -332,12 +342,16 @@ fn listed(image: &[u8]) -> String {
 
 // ---- Rounds
 
-/// A board of each kind: laid, bare, unknown, or one of these damaged.
+/// A board of each kind: laid, bare, unknown, hostile words that are no board, or one of the first two damaged.
 fn some_board(layout: &Layout, random: &mut Random) -> Vec<u64> {
     let blocks = layout.block_count(random);
-    let mut board = match random.below(8) {
+    let mut board = match random.below(16) {
         0 => return layout.unknown(random, blocks),
-        1..=4 => layout.laid(random, blocks),
+        1 => {
+            let more = random.pick(&[0, 0, 1, layout.block - 1]);
+            return layout.hostile(random, layout.pointer(blocks, more) as usize);
+        }
+        2..=9 => layout.laid(random, blocks),
         _ => layout.bare(random, blocks),
     };
     if random.one_in(4) {

@@ -14,11 +14,12 @@ impl Library {
         (0..files).map(read).collect()
     }
 
-    /// Whether a file of an accepted board reads as this. The buffer has room for one byte more.
-    pub fn reads_as(&self, board: &[u64], file: u64, content: &[u8]) -> bool {
-        let mut out = vec![0; content.len() + 1];
-        let count = done(self.read(board, file, 0, &mut out));
-        out[..count as usize] == *content
+    /// Whether a file of an accepted board reads as this, into a buffer with room for one byte more.
+    pub fn reads_as(&self, board: &[u64], file: u64, content: &[u8], buffer: &mut Vec<u8>) -> bool {
+        let room = content.len() + 1;
+        buffer.resize(buffer.len().max(room), 0);
+        let count = done(self.read(board, file, 0, &mut buffer[..room]));
+        buffer[..count as usize] == *content
     }
 }
 

@@ -49,6 +49,7 @@ pub const PUBLISHED: Layout = Layout {
 };
 
 impl Layout {
+    /// A pointer; with the place of a word for the low bits it is the word's address.
     pub fn pointer(&self, block: u64, low: u64) -> u64 {
         self.block * block + low
     }

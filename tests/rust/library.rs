@@ -114,20 +114,12 @@ impl Library {
 
 // ---- On words of the house's boards
 
-pub fn size(board: &[u64], file: u64) -> i64 {
-    HOUSE.size(board, file)
-}
-
 pub fn walk(board: &[u64], file: u64, byte: u64) -> i64 {
     unsafe { montebeech_words_walk(board.as_ptr(), board.len(), file, byte) }
 }
 
 pub fn write(board: &[u64], file: u64, offset: u64, bytes: &[u8], plan: &mut [u64]) -> i64 {
     HOUSE.write(board, file, offset, bytes, plan)
-}
-
-pub fn set_length(board: &[u64], file: u64, length: u64, plan: &mut [u64]) -> i64 {
-    HOUSE.set_length(board, file, length, plan)
 }
 
 pub fn perform(board: &mut [u64], plan: &[u64], pairs: u64) -> i64 {

@@ -20,16 +20,12 @@ impl Library {
 
 // ---- On the house's boards
 
-pub fn whole(board: &mut [u64], plan: &[u64]) {
-    HOUSE.perform_whole(board, plan);
-}
-
 /// Performs what a call plans on the board; answers the plan.
 fn planned(board: &mut [u64], call: impl Fn(&[u64], &mut [u64]) -> i64) -> Vec<u64> {
     let mut plan = vec![0; room(board)];
     let pairs = done(call(board, &mut plan));
     plan.truncate(2 * pairs as usize);
-    whole(board, &plan);
+    HOUSE.perform_whole(board, &plan);
     plan
 }
 

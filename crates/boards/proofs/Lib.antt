@@ -1,2 +1,3 @@
--- What the proofs of several functions use: where a file's inode stands.
+-- What the proofs of several functions use: where a file's inode stands (Inodes), and runs of zeros (Trailing).
 pub mod Inodes
+pub mod Trailing

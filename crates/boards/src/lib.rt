@@ -14,12 +14,13 @@ use model::Kind;
 use words::cell;
 use words::word;
 ghost use mathlib.Core.Path.{_≡_};
-ghost use Prim.Native.Nat.{_+_, _-_, _<_};
+ghost use Prim.Native.Nat.{_+_, _-_, _^_, _≤_, _<_};
 ghost use lib.ListN.{getD};
+ghost use Rattle.model.specs.Lists.{every};
 ghost use Rattle.model.specs.Layout.{layoutOf};
 ghost use Rattle.model.specs.Tree.{link};
 ghost use Rattle.model.specs.Board.{trailerWord, blockCount, trailer, inodePointer, rootAddress, root, size, linkedLeaf, linkedWord, wordCountSound, trailerSound};
-ghost use Rattle.boards.specs.Trailers.{trailerWordsSound, sparesSound};
+ghost use Rattle.boards.specs.Trailers.{zerosIn, trailerWordSound, trailerWordsSound, sparesSound};
 ghost use Rattle.boards.specs.Inodes.{AddressOf, InodeOf};
 
 // The number of blocks.
@@ -154,19 +155,44 @@ pub fn trailer_word(kind: Kind, blocks: u64, j: u64) -> u64
     }
 }
 
-// Whether the words of the trailer from word 1 on are as they must be.
-fn trailer_words_sound(kind: Kind, board: &[u64]) -> bool
-    ensures { λ r. ⌜ r ≡ trailerWordsSound (layoutOf kind) (now (board .entry)) ⌝ }
+// Whether words `from` to `to` - 1 of the block that begins at an index are 0; those off the board are.
+fn zeros(board: &[u64], at: u64, from: u64, to: u64) -> bool
+    requires { ⌜ at + to ≤ 2 ^ 64 ⌝ }
+    ensures { λ r. ⌜ r ≡ zerosIn (now (board .entry)) at from (to - from) ⌝ }
 {
-    let n = words_in(kind) - 1;
+    let mut j = from;
+    while j < to {
+        if word(board, at + j) != 0 {
+            return false;
+        }
+        j += 1;
+    }
+    true
+}
+
+// Whether words 1 to 3 of the trailer are as they must be.
+fn figures_sound(kind: Kind, board: &[u64]) -> bool
+    ensures { λ r. ⌜ r ≡ every 3 (trailerWordSound (layoutOf kind) (now (board .entry))) ⌝ }
+{
     let mut j = 0;
-    while j < n {
+    while j < 3 {
         if trailer(kind, board, j + 1) != trailer_word(kind, block_count(kind, board), j + 1) {
             return false;
         }
         j += 1;
     }
     true
+}
+
+// Whether the words of the trailer from word 1 on are as they must be: from word 4 on they are 0.
+fn trailer_words_sound(kind: Kind, board: &[u64]) -> bool
+    ensures { λ r. ⌜ r ≡ trailerWordsSound (layoutOf kind) (now (board .entry)) ⌝ }
+{
+    if !figures_sound(kind, board) {
+        return false;
+    }
+    let at = start_in(kind, last(kind, board));
+    zeros(board, at, 4, words_in(kind))
 }
 
 // Whether the trailer is as it must be.
@@ -191,14 +217,6 @@ pub fn trailer_sound(kind: Kind, board: &[u64]) -> bool
 pub fn spares_sound(kind: Kind, board: &[u64]) -> bool
     ensures { λ r. ⌜ r ≡ sparesSound (layoutOf kind) (now (board .entry)) ⌝ }
 {
-    let first = leaf_count(kind);
-    let count = words_in(kind) - first;
-    let mut j = 0;
-    while j < count {
-        if inode_pointer(kind, board, first + j) != 0 {
-            return false;
-        }
-        j += 1;
-    }
-    true
+    let at = start_in(kind, block_in(kind, trailer(kind, board, 0)));
+    zeros(board, at, leaf_count(kind), words_in(kind))
 }

@@ -38,14 +38,7 @@ few-leaves kind = omega (arith, fits kind .format-fits)
 pub small-place : (kind : Kind) → 2 + layoutOf kind .words * (1 + layoutOf kind .leaves) ≤ 7170
 small-place kind = let l : 1 + layoutOf kind .leaves ≤ 14 = omega (arith, few-leaves kind) in omega (arith, mul-le-mul (few-words kind) l)
 
--- the trailer's words have addresses
-pub trailer-room : (kind : Kind) (n : ℕ) → n < 2 ^ 64 → layoutOf kind .words * (n / layoutOf kind .words - 1) + layoutOf kind .words ≤ 2 ^ 64
-trailer-room kind n l =
-    let W = layoutOf kind .words in
-    let before : n / W - 1 ≤ n / W = omega arith in
-    omega (arith, block-room kind n l, mul-le-mul-left W before)
-
--- so have the leaves
+-- the leaves have addresses
 pub pointer-room : (kind : Kind) (j : ℕ) → j < layoutOf kind .leaves → layoutOf kind .words * (2 + j) < 2 ^ 64
 pointer-room kind j l = omega (arith, mul-le-mul-right (2 + j) (few-words kind), few-leaves kind)
 

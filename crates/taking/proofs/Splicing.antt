@@ -1,16 +1,19 @@
 -- Bytes written over others: those under a child, and the words of a data block.
 use mathlib.Core.Path.{_≡_, refl, sym, ap, ap₂, _∙_}
-use mathlib.Core.Logic.{_≢_}
+use mathlib.Core.Logic.{_≢_, inl, inr}
+use mathlib.Core.Bool.{Bool, true, _||_}
 use mathlib.Core.List.{List, []}
-use Prim.Native.Nat.{ℕ, zero, suc, _+_, _-_, _*_, _^_, _≤_, _<_}
+use Prim.Native.Nat.{ℕ, zero, suc, _+_, _-_, _*_, _/_, _%_, _^_, _≤_, _<_}
 use native.Mathlib.Omega.{arith}
 use native.Mathlib.Nat.{zero-add, add-zero, pow-succ', pow-le-pow-right}
 use lib.ListN.{length, getD, take, drop, length-drop, drop-of-length-le}
 use lib.Seq.{take-all, take-nil}
+use lib.Dec.{T, leb, leb→le}
 use Rattle.model.specs.Words.{byteOf, wordOf}
 use Rattle.model.specs.Tree.{link}
 use Rattle.model.specs.Fresh.{part, dataPage}
-use Rattle.model.proofs.Bytes.{byteOf-lt}
+use Rattle.model.proofs.Bytes.{byteOf-lt, byteOf-suc}
+use Rattle.model.proofs.Cases.{or-cases}
 use Rattle.model.proofs.Agree.{seen-live, seen-dead}
 use Rattle.model.proofs.Splice.{splice-in, splice-skip}
 use Rattle.taking.specs.Taking.{splicedByte, SplicedByte}
@@ -55,6 +58,33 @@ pub word-new : (x n o : ℕ) (new : List ℕ) (j : ℕ) {r : ℕ} → o ≤ 8 * 
     → r ≡ wordOf 8 (splicedByte x n o new j)
 unfolding splicedByte
 word-new x n o new j l d e = e ∙ word-cong 8 _ _ (λ i u. sym (splice-in o new _ (8 * j + i) (omega arith) (omega arith) ∙ ap (λ (k : ℕ). getD new k 0) (omega arith)))
+
+byteOf-zero : (x : ℕ) → byteOf x 0 ≡ x % 256
+unfolding byteOf
+byteOf-zero x = omega arith
+
+-- a word is its bytes
+own-bytes : (m x : ℕ) → x < 256 ^ m → wordOf m (byteOf x) ≡ x
+unfolding wordOf
+own-bytes zero x l = omega arith
+own-bytes (suc m) x l =
+    let rest : wordOf m (λ i. byteOf x (suc i)) ≡ x / 256 = word-cong m _ _ (λ i u. byteOf-suc x i) ∙ own-bytes m (x / 256) (omega (arith, pow-succ' 256 m)) in
+    rw rest (omega (arith, byteOf-zero x))
+
+-- a word that no written byte falls into: all of it visible, or nothing
+module _ {t : Bool} (x n o : ℕ) (new : List ℕ) (j : ℕ) (e : t ≡ (leb (8 * j + 8) o || leb (o + length new) (8 * j))) (y : t ≡ true) where
+  apart : (i : ℕ) → i < 8 → o ≤ 8 * j + i → 8 * j + i < o + length new → ⊥
+  apart i l u v = elim (or-cases (leb (8 * j + 8) o) (leb (o + length new) (8 * j)) (rw (← e, y) tt)) [
+    | inl h ↦ absurd (omega (arith, leb→le (8 * j + 8) o h))
+    | inr h ↦ absurd (omega (arith, leb→le (o + length new) (8 * j) h))
+  ]
+
+  pub word-kept : x < 2 ^ 64 → 8 * j + 8 ≤ n → x ≡ wordOf 8 (splicedByte x n o new j)
+  word-kept small l = sym (own-bytes 8 x small) ∙ word-cong 8 _ _ (λ i u. byte-old {x = x} {n = n} {o = o} {new = new} {j = j} {i = i} (apart i u) (omega arith) refl .is)
+
+  pub word-gone : n ≤ 8 * j → 0 ≡ wordOf 8 (splicedByte x n o new j)
+  unfolding wordOf
+  word-gone l = word-cong 8 (λ i. 0) _ (λ i u. byte-none {x = x} {n = n} {o = o} {new = new} {j = j} {i = i} (apart i u) (omega arith) .is)
 
 -- the bytes of a word from byte i on, as one number
 pub record From (f : ℕ → ℕ) (i v : ℕ) : Type 0 where

@@ -14,11 +14,11 @@ use words::width;
 use words::word;
 use words::word_at;
 ghost use mathlib.Core.Path.{_≡_};
-ghost use mathlib.Core.Bool.{false, _&&_};
+ghost use mathlib.Core.Bool.{false, _&&_, _||_};
 ghost use mathlib.Core.List.{[], _∷_};
 ghost use Prim.Native.Nat.{_+_, _*_, _^_, _≤_, _<_};
 ghost use lib.ListN.{length, getD};
-ghost use lib.Dec.{eqb};
+ghost use lib.Dec.{eqb, leb};
 ghost use Rattle.model.specs.Words.{wordOf};
 ghost use Rattle.model.specs.Store.{laid};
 ghost use Rattle.model.specs.Fresh.{part, partLength, touched, need, dataPage};
@@ -82,12 +82,37 @@ fn spliced_byte(x: u64, n: u64, o: u64, new: &[u8], j: u64, i: u64) -> u64
     byte(x, i) as u64
 }
 
-// That word. Where all of it is written, it is read at once.
+// Whether none of l bytes written at o falls into the word that begins at byte `first`.
+fn beside(first: u64, o: u64, l: u64) -> bool
+    requires { ⌜ first ≤ 4096 ⌝ }
+    ensures { λ r. ⌜ r ≡ (leb (first + 8) o || leb (o + l) first) ⌝ }
+{
+    if first + 8 <= o {
+        return true;
+    }
+    if first < o {
+        return false;
+    }
+    if first - o < l {
+        return false;
+    }
+    true
+}
+
+// That word. Where all of it is written, or nothing and it is all visible or not at all, it is had at once.
 pub fn spliced(x: u64, n: u64, o: u64, new: &[u8], j: u64) -> u64
     requires { ⌜ j ≤ 512 ⌝ }
     ensures { λ r. ⌜ r ≡ wordOf 8 (splicedByte x n o (now (new .entry)) j) ⌝ }
 {
     let first = 8 * j;
+    if beside(first, o, new.len() as u64) {
+        if first + 8 <= n {
+            return x;
+        }
+        if n <= first {
+            return 0;
+        }
+    }
     if o <= first {
         let d = (first - o) as usize;
         if d + 8 <= new.len() {

@@ -1,59 +1,40 @@
 use borrow.Author.Needs.{needs}
-use mathlib.Core.Path.{_≡_, refl, sym, _∙_}
-use mathlib.Core.Bool.{Bool, true}
-use mathlib.Core.List.{List}
-use Prim.Native.Nat.{ℕ, suc, _+_, _-_, _≤_}
-use native.Mathlib.Numerals.{add-one}
+use borrow.Author.Tests.{not-true, not-false}
+use mathlib.Core.Path.{sym, _∙_}
+use Prim.Native.Nat.{_+_, _^_, _≤_}
 use native.Mathlib.Omega.{arith}
-use lib.Dec.{eqb}
-use borrow.Author.Tests.{eq-eqb, ne-eqb}
-use Rattle.model.specs.Lists.{every}
-use Rattle.model.specs.Layout.{Layout, layoutOf}
-use Rattle.model.specs.Board.{trailerWord, blockCount, trailer}
-use Rattle.model.proofs.Cases.{every-more, every-fails}
+use lib.ListN.{length}
+use Rattle.model.specs.Layout.{layoutOf}
+use Rattle.model.specs.Board.{blockCount}
+use Rattle.model.proofs.Formatted.{fits}
+use Rattle.kinds.proofs.Figures.{words-pos}
+use Rattle.boards.proofs.Trailing.{trailer-room, trailer-zeros, trailer-figures}
 use Rattle.boards.proofs.trailer_words_sound.Statement.{statement}
 use Rattle.boards.proofs.trailer_words_sound.Tie as tie
 
--- word j + 1 is as it must be
-abbrev right : Layout → List ℕ → ℕ → Bool
-right g b j = eqb (trailer g b (suc j)) (trailerWord g (blockCount g b) (suc j))
+returns : tie.Need-returns
+returns c = let f = c .before in let a = f .before .before .args in
+    trailer-figures (layoutOf (a .kind)) (fits (a .kind)) (a .board .now) (f .figures-sound .ensures) (not-true _ (c .if1 .taken))
 
--- what the code's three calls say of it
-told : (g : Layout) (b : List ℕ) (j : ℕ) {x n y : ℕ} → x ≡ trailer g b (j + 1) → n ≡ blockCount g b → y ≡ trailerWord g n (j + 1) → right g b j ≡ eqb x y
-told g b j ex en ey = rw (ex, ey, en, add-one j)
+start-in-requires : tie.Need-start-in-requires
+unfolding blockCount
+start-in-requires c κs = let a = c .before .before .before .before .args in
+    rw (c .last .ensures) (omega (arith, words-pos (a .kind), trailer-room (a .kind) (length (a .board .now)) (omega arith)))
 
-abbrev Inv-loop : tie.InvT-loop
-Inv-loop kind board n j₀ j = (j ≤ n) × (every j (right (layoutOf kind) board) ≡ true)
+-- the trailer has addresses
+room : (c : tie.After-start-in) → let a = c .before .before .before .before .before .args in c .start-in .result + layoutOf (a .kind) .words ≤ 2 ^ 64
+unfolding blockCount
+room c = let a = c .before .before .before .before .before .args in
+    rw (c .start-in .ensures, c .before .last .ensures) (trailer-room (a .kind) (length (a .board .now)) (omega arith))
 
-abbrev μ-loop : tie.MeasureT-loop
-μ-loop kind board n j₀ j = n - j
+zeros-requires : tie.Need-zeros-requires
+zeros-requires c κs = rw (c .words-in .ensures .is) (room (c .before))
 
--- so many words the trailer has
-all : (c : tie.After-words-in Inv-loop μ-loop) → let a = c .before .before .args in let f = right (layoutOf (a .kind)) (a .board .now) in
-    every (layoutOf (a .kind) .words - 1) f ≡ every (c .words-in .result - 1) f
-all c = rw (c .words-in .ensures .is)
-
-loop-holds : tie.Need-loop-holds Inv-loop μ-loop
-unfolding every
-loop-holds c = (omega arith, refl)
-
-returns : tie.Need-returns Inv-loop μ-loop
-returns c = let l = c .before .before .before .before .before in let a = l .before .before .before .args in let g = layoutOf (a .kind) in
-    sym (all (l .before) ∙ every-fails (l .before .words-in .result - 1) (l .loop .j) (right g (a .board .now)) (c .before .before .before .before .loop-test .taken)
-    (told g (a .board .now) (l .loop .j) (c .before .before .before .trailer .ensures) (c .before .before .block-count .ensures) (c .before .trailer-word .ensures) ∙ ne-eqb _ _ (c .if1 .taken)))
-
-loop-again : tie.Need-loop-again Inv-loop μ-loop
-loop-again c = let l = c .before .before .before .before .before in let a = l .before .before .before .args in let g = layoutOf (a .kind) in (
-  omega arith,
-  every-more (l .loop .j) (right g (a .board .now)) (l .loop .inv .1)
-      (told g (a .board .now) (l .loop .j) (c .before .before .before .trailer .ensures) (c .before .before .block-count .ensures) (c .before .trailer-word .ensures) ∙ eq-eqb _ _ (c .if1 .left)),
-)
-
-returns-2 : tie.Need-returns-2 Inv-loop μ-loop
-returns-2 c = let l = c .before in let e : l .loop .j ≡ l .before .words-in .result - 1 = omega arith in sym (all (l .before) ∙ rw e at (l .loop .inv .1))
+returns-2 : tie.Need-returns-2
+returns-2 c = let w = c .before in let s = w .before in let f = s .before .before .before in let a = f .before .before .args in let g = layoutOf (a .kind) in
+    c .zeros .ensures ∙ trailer-zeros g (fits (a .kind)) (a .board .now) (rw (s .start-in .ensures, s .before .last .ensures)) (w .words-in .ensures .is)
+    (sym (f .figures-sound .ensures) ∙ not-false _ (s .before .before .if1 .left))
 
 pub trailer-words-sound-spec : {M : Type 1} → statement M
 trailer-words-sound-spec =
-    tie.close (tie.spec Inv-loop μ-loop (λ c κs. search needs) (λ c. search needs) loop-holds (λ c. search needs) (λ c κs. search needs)
-    (λ c κs. search needs) (λ c. search needs)
-    (λ c κs. search needs) returns (λ c. search needs) (λ c. search needs) loop-again returns-2)
+    tie.close (tie.spec (λ c κs. search needs) returns (λ c κs. search needs) start-in-requires (λ c κs. search needs) zeros-requires returns-2)

@@ -7,7 +7,8 @@ use Rattle.model.specs.Layout.{layoutOf}
 use Rattle.model.specs.Board.{blockCount}
 use Rattle.model.proofs.Formatted.{fits}
 use Rattle.kinds.proofs.Figures.{words-pos}
-use Rattle.formatting.proofs.Formatting.{format-laid, trailer-room}
+use Rattle.boards.proofs.Trailing.{trailer-room}
+use Rattle.formatting.proofs.Formatting.{format-laid}
 use Rattle.formatting.proofs.lay_format.Statement.{statement}
 use Rattle.formatting.proofs.lay_format.Tie as tie
 

@@ -10,7 +10,8 @@ use Rattle.model.specs.Format.{trailerStores}
 use Rattle.kinds.proofs.Figures.{words-pos}
 use Rattle.plans.specs.Laying.{Laid}
 use Rattle.plans.proofs.Laying as Laying
-use Rattle.formatting.proofs.Formatting.{trailerPart, trailer-none, trailer-more, trailer-room}
+use Rattle.boards.proofs.Trailing.{trailer-room}
+use Rattle.formatting.proofs.Formatting.{trailerPart, trailer-none, trailer-more}
 use Rattle.formatting.proofs.lay_trailer.Statement.{statement}
 use Rattle.formatting.proofs.lay_trailer.Tie as tie
 
