@@ -4,6 +4,7 @@ use mathlib.Core.Logic.{_≢_}
 use mathlib.Core.Bool.{Bool, true, false, _&&_}
 use mathlib.Core.List.{List, [], _∷_, _++_}
 use Prim.Native.Nat.{ℕ, zero, suc, _-_, _*_, _/_, _%_, _≤_, _<_}
+use native.Mathlib.Nat.{mul-le-mul-right}
 use native.Mathlib.Omega.{arith}
 use lib.Dec.{ltb, eqb}
 use borrow.Author.Tests.{eq-eqb, ne-eqb}
@@ -11,7 +12,7 @@ use Rattle.model.specs.Lists.{every, joined}
 use Rattle.model.specs.Tree.{span, aligned, cell}
 use Rattle.model.proofs.Trees.{childBlocks, childSound, blocksUnder, soundUnder, blocks-children, sound-children, blocks-dead, blocks-null, blocks-here, sound-dead, sound-null, sound-here}
 use Rattle.trees.specs.Marks.{Marked}
-use Rattle.trees.specs.Trees.{Crawled}
+use Rattle.trees.specs.Trees.{Crawled, Beneath}
 use Rattle.trees.proofs.Marking
 
 module _ (W top : ℕ) (b : List ℕ) (h k n : ℕ) where
@@ -40,6 +41,10 @@ module _ {W top : ℕ} {b m : List ℕ} {h k n : ℕ} where
       pub node : {ok′ : Bool} {m′ : List ℕ} → ok ≡ true → h ≢ 0 → Marked (every W (kidSound W top b (h - 1) k n)) (joined W (childBlocks W b (h - 1) k n)) m₀ ok′ m′ → Crawled W top b h k n m ok′ m′
       node z f d = here (Marking.both c z (Marking.same (sound-children W b k n top h f) (blocks-children W b k n h f) d))
 
+      -- a block right above data
+      pub low : {ok′ : Bool} {m′ : List ℕ} → ok ≡ true → h ≡ 1 → Beneath W top b 0 k n m₀ ok′ m′ → Crawled W top b h k n m ok′ m′
+      low z e d = let q : h - 1 ≡ 0 = omega arith in node z (λ f. omega arith) (rw q (d .crawled))
+
 -- a live pointer's low bits
 aligned-live : (W n w : ℕ) → n ≢ 0 → aligned W n w ≡ eqb (w % W) 0
 unfolding aligned
@@ -65,3 +70,8 @@ module _ (W top : ℕ) (b : List ℕ) (h k n j : ℕ) {s : ℕ} (es : s ≡ span
 
     pub kid-live : {d : ℕ} {m m′ : List ℕ} {ok : Bool} → d ≡ p / W → l ≡ 0 → Crawled W top b h d (n - j * s) m ok m′ → Marked (kidSound W top b h k n j) (childBlocks W b h k n j) m ok m′
     kid-live ed e c = Marking.same (rw (aligned-kid, eq-eqb l 0 e)) refl (rw (ed, ep, es) at (c .crawled))
+
+-- from child j on none is live: those below it are all there are
+pub kids-dead : (W top : ℕ) (b : List ℕ) (h k n j : ℕ) {s N : ℕ} {m m′ : List ℕ} → s ≡ span W h → Marking.Going (kidSound W top b h k n) (childBlocks W b h k n) m j m′ → n ≤ j * s → j ≤ N →
+    Marked (every N (kidSound W top b h k n)) (joined N (childBlocks W b h k n)) m true m′
+kids-dead W top b h k n j {s} {N} es g q l = Marking.rest g (λ i u. kid-dead W top b h k n i es (omega (arith, mul-le-mul-right s u))) N l

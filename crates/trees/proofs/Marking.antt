@@ -101,3 +101,12 @@ module _ {p : ℕ → Bool} {f : ℕ → List ℕ} {m : List ℕ} where
 
   pub all : {m₁ : List ℕ} {j n : ℕ} → Going p f m j m₁ → j ≡ n → Marked (every n p) (joined n f) m true m₁
   all g e = rw e at (g .so-far)
+
+  -- every later piece is good and has no blocks: what is marked is all
+  pub rest : {m₁ : List ℕ} {j : ℕ} → Going p f m j m₁ → ((i : ℕ) → j ≤ i → Marked (p i) (f i) m₁ true m₁) → (n : ℕ) → j ≤ n → Marked (every n p) (joined n f) m true m₁
+  unfolding every joined
+  rest g d zero l = all {n = zero} g (omega arith)
+  rest {j = j} g d (suc n) l = elim (split j n) [
+    | inl u ↦ both (rest g d n u) refl (d n u)
+    | inr u ↦ all {n = suc n} g (omega arith)
+  ]

@@ -20,6 +20,10 @@ span-shift b h = rw (add-one h, shift b (suc h), span-power (2 ^ b) h)
 pub lower : {b h : ℕ} → Reach b h → Reach b (h - 1)
 lower {b} {h} r = record { width = r .width; spans = omega (arith, span-mono (2 ^ b) (pow-pos b) (h - 1) h (omega arith), r .spans) }
 
+-- a data block
+pub lowest : {b h : ℕ} → Reach b h → Reach b 0
+lowest {b} {h} r = record { width = r .width; spans = omega (arith, span-mono (2 ^ b) (pow-pos b) 0 h (omega arith), r .spans) }
+
 -- the shift is small
 pub shift-small : {b h : ℕ} → Reach b h → b * (h + 1) ≤ 24
 shift-small {b} {h} r = elim (split (b * (h + 1)) 24) [

@@ -14,7 +14,7 @@ ghost use Prim.Native.Nat.{_%_, _^_};
 ghost use lib.Dec.{ltb};
 ghost use Rattle.model.specs.Tree.{ending, walk};
 ghost use Rattle.model.specs.Board.{rootWalk};
-ghost use Rattle.trees.specs.Trees.{Reach, Spanned, Crawled, Counted};
+ghost use Rattle.trees.specs.Trees.{Reach, Spanned, Crawled, Beneath, Counted};
 ghost use Rattle.trees.specs.Marks.{Marked};
 
 // A tree (h, k, n), as functions of many arguments take it.
@@ -96,6 +96,34 @@ pub fn claim(marks: &mut [u64], top: u64, k: u64) -> bool
     true
 }
 
+// Marks the data blocks of the live pointers of block k; whether these pointers are as they must be and none of their blocks was marked before. The loop
+// of a crawl, without its calls: most blocks hold data, and a call for each would cost more than its mark.
+fn mark_data(bits: u64, board: &[u64], marks: &mut [u64], top: u64, k: u64, n: u64) -> bool
+    requires { ⌜ Reach bits 0 ⌝ }
+    ensures { λ r. ⌜ Beneath (2 ^ bits) top (now (board .entry)) 0 k n (now (marks .entry)) r (now (marks .exit)) ⌝ }
+{
+    let s = span(bits, 0);
+    let w = width(bits);
+    let mut i = 0;
+    while i < w {
+        if n <= i * s {
+            return true; // nor is any later one live
+        }
+        let pointer = cell(bits, board, k, i);
+        if low_of(bits, pointer) != 0 {
+            return false;
+        }
+        let block = block_of(bits, pointer);
+        if block != 0 {
+            if !claim(marks, top, block) {
+                return false;
+            }
+        }
+        i += 1;
+    }
+    true
+}
+
 // Marks the live blocks of a tree; whether its live pointers are as they must be and none of its blocks was marked before.
 pub fn crawl(bits: u64, board: &[u64], marks: &mut [u64], top: u64, h: u64, k: u64, n: u64) -> bool
     requires { ⌜ Reach bits h ⌝ }
@@ -113,19 +141,23 @@ pub fn crawl(bits: u64, board: &[u64], marks: &mut [u64], top: u64, h: u64, k: u
     if h == 0 {
         return true;
     }
+    if h == 1 {
+        return mark_data(bits, board, marks, top, k, n);
+    }
     let s = span(bits, h - 1);
     let w = width(bits);
     let mut j = 0;
     while j < w {
         let first = j * s;
-        if first < n {
-            let p = cell(bits, board, k, j);
-            if low_of(bits, p) != 0 {
-                return false;
-            }
-            if !crawl(bits, board, marks, top, h - 1, block_of(bits, p), n - first) {
-                return false;
-            }
+        if n <= first {
+            return true;
+        }
+        let p = cell(bits, board, k, j);
+        if low_of(bits, p) != 0 {
+            return false;
+        }
+        if !crawl(bits, board, marks, top, h - 1, block_of(bits, p), n - first) {
+            return false;
         }
         j += 1;
     }

@@ -1,6 +1,5 @@
 -- The measure is the height; the loop has marked the children below j.
 use mathlib.Core.Path.{_≡_, refl, _∙_}
-use mathlib.Core.Logic.{⊎-elim}
 use mathlib.Core.Bool.{Bool}
 use mathlib.Core.List.{List}
 use Prim.Native.Nat.{ℕ, _-_, _^_, _≤_, _<_}
@@ -21,11 +20,12 @@ use Rattle.trees.specs.Marks.{Marked}
 use Rattle.trees.specs.Trees.{Crawled}
 use Rattle.trees.proofs.Marking
 use Rattle.trees.proofs.Crawling
-use Rattle.trees.proofs.Reaching.{lower}
+use Rattle.trees.proofs.Reaching.{lower, lowest}
 use Rattle.trees.proofs.crawl.Reads as crawl
 use Rattle.trees.proofs.crawl.Kinds as kinds
 use Rattle.trees.proofs.+crawl.Lts-crawl as lts
 use Rattle.trees.proofs.claim.Reads as claim-reads
+use Rattle.trees.proofs.mark_data.Reads as mark-data-reads
 use Rattle.trees.proofs.span.Reads as span-reads
 use Rattle.trees.proofs.+crawl.{statement}
 use Rattle.trees.proofs.+crawl.Tie.{close}
@@ -43,6 +43,8 @@ abbrev known : ℕ → lts.Claims
 known t = (
   claim-reads.Asked,
   claim-reads.Learnt,
+  mark-data-reads.Asked,
+  mark-data-reads.Learnt,
   span-reads.Asked,
   span-reads.Learnt,
   width-reads.Asked,
@@ -69,13 +71,13 @@ module _ (t : ℕ) where
   N F = F (known t) (at t) crawl.Post Inv-loop μ-loop
 
   -- what the loop says of the children is said of the tree
-  node : {ok : Bool} {m : List ℕ} (c : N lts.After-width) → let u = c .before .before .before .before .before in let a = u .before .before .before .before .before .before .before .args in
+  node : {ok : Bool} {m : List ℕ} (c : N lts.After-width) → let u = c .before .before .before .before .before .before in let a = u .before .before .before .before .before .before .before .args in
       Marked (every (c .width .result) (Crawling.kidSound (2 ^ a .bits) (a .top) (a .board .now) (a .h - 1) (a .k) (a .n)))
       (joined (c .width .result) (childBlocks (2 ^ a .bits) (a .board .now) (a .h - 1) (a .k) (a .n)))
       (u .before .claim .last .0) ok m → Crawled (2 ^ a .bits) (a .top) (a .board .now) (a .h) (a .k) (a .n) (a .marks .now) ok m
-  node c d = let u = c .before .before .before .before .before in
+  node c d = let u = c .before .before .before .before .before .before in
       Crawling.node (u .before .before .before .before .if1 .left) (u .before .before .before .if2 .left) (u .before .claim .ensures)
-      (not-false _ (c .before .before .before .if3 .left)) (c .before .before .if4 .left) (rw (c .width .ensures .is) at d)
+      (not-false _ (c .before .before .before .before .if3 .left)) (c .before .before .before .if4 .left) (rw (c .width .ensures .is) at d)
 
   returns : N lts.Need-returns
   returns c = Crawling.dead (c .if1 .taken)
@@ -91,8 +93,15 @@ module _ (t : ℕ) where
   returns-4 c = let u = c .before .before .before .before in
       Crawling.leaf (u .before .before .before .if1 .left) (u .before .before .if2 .left) (u .claim .ensures) (not-false _ (c .before .if3 .left)) (c .if4 .taken)
 
+  mark-data-requires : N lts.Need-mark-data-requires
+  mark-data-requires c κs = lowest (c .before .before .before .before .before .before .before .before .before .before .before .before .pre .1)
+
+  returns-5 : N lts.Need-returns-5
+  returns-5 c = let d = c .before .before in let v = d .before .before in let u = v .before .before .before .before .before in
+      Crawling.low (u .before .before .before .if1 .left) (u .before .before .if2 .left) (u .claim .ensures) (not-false _ (v .before .before .if3 .left)) (v .if5 .taken) (d .mark-data .ensures)
+
   span-requires : N lts.Need-span-requires
-  span-requires c κs = lower (c .before .before .before .before .before .before .before .before .before .before .pre .1)
+  span-requires c κs = lower (c .before .before .before .before .before .before .before .before .before .before .before .pre .1)
 
   loop-holds : N lts.Need-loop-holds
   loop-holds c = (omega arith, refl, Marking.start)
@@ -100,39 +109,33 @@ module _ (t : ℕ) where
   mul-first : N lts.Need-mul-first
   mul-first c = omega (arith, mul-le-mul (c .loop-test .taken) (c .before .before .before .span .ensures .high))
 
-  returns-5 : N lts.Need-returns-5
-  returns-5 c = let l = c .before .before .before .before .before in let s = l .before .before in
-      let a = s .before .before .before .before .before .before .before .before .before .before .before .args in
-      let kid = Crawling.kid-low (2 ^ a .bits) (a .top) (a .board .now) (a .h - 1) (a .k) (a .n) (l .loop .j) (s .span .ensures .is) (c .before .before .cell .ensures) (c .before .low-of .ensures)
-      (c .before .before .before .if5 .taken) (c .if6 .taken) in
-      node (l .before) (Marking.stop {m₂ = l .loop .marks} (l .loop .inv .2) kid (c .before .before .before .before .loop-test .taken) refl)
-
   returns-6 : N lts.Need-returns-6
-  returns-6 c = let x = c .before .before .before .before .before .before in let l = x .before .before .before .before .before in let s = l .before .before in
-      let a = s .before .before .before .before .before .before .before .before .before .before .before .args in
-      let kid = Crawling.kid-live (2 ^ a .bits) (a .top) (a .board .now) (a .h - 1) (a .k) (a .n) (l .loop .j) (s .span .ensures .is) (x .before .before .cell .ensures) (x .before .low-of .ensures)
-      (x .before .before .before .if5 .taken) (c .before .before .before .before .block-of .ensures) (x .if6 .left) (c .before .before .before .crawl .ensures) in
-      node (l .before) (Marking.stop (l .loop .inv .2) kid (x .before .before .before .before .loop-test .taken) (not-true _ (c .if7 .taken)))
-
-  loop-again : N lts.Need-loop-again
-  loop-again c = let l = c .before .before in let s = l .before .before in let a = s .before .before .before .before .before .before .before .before .before .before .before .args in
-      ⊎-elim
-      (λ w. rw (w .10) (
-        omega arith,
-        w .6 .kept .1 .1 .0 ∙ l .loop .inv .1,
-        Marking.step (l .loop .inv .2)
-            (Crawling.kid-live (2 ^ a .bits) (a .top) (a .board .now) (a .h - 1) (a .k) (a .n) (l .loop .j) (s .span .ensures .is) (w .1 .ensures) (w .2 .ensures) (w .0 .taken) (w .5 .ensures) (w .3 .left) (w .6 .ensures))
-            (not-false _ (w .9 .left)),
-      ))
-      (λ w. rw (w .1) (
-        omega arith,
-        l .loop .inv .1,
-        Marking.step (l .loop .inv .2) (Crawling.kid-dead (2 ^ a .bits) (a .top) (a .board .now) (a .h - 1) (a .k) (a .n) (l .loop .j) (s .span .ensures .is) (w .0 .left)) refl,
-      ))
-      (c .if5 .came)
+  returns-6 c = let l = c .before .before in let s = l .before .before in let a = s .before .before .before .before .before .before .before .before .before .before .before .before .args in
+      node (l .before) (Crawling.kids-dead (2 ^ a .bits) (a .top) (a .board .now) (a .h - 1) (a .k) (a .n) (l .loop .j) (s .span .ensures .is) (l .loop .inv .2) (c .if6 .taken) (l .loop .inv .0))
 
   returns-7 : N lts.Need-returns-7
-  returns-7 c = node (c .before .before) (Marking.all (c .before .loop .inv .2) (omega arith))
+  returns-7 c = let l = c .before .before .before .before .before in let s = l .before .before in
+      let a = s .before .before .before .before .before .before .before .before .before .before .before .before .args in
+      let kid = Crawling.kid-low (2 ^ a .bits) (a .top) (a .board .now) (a .h - 1) (a .k) (a .n) (l .loop .j) (s .span .ensures .is) (c .before .before .cell .ensures) (c .before .low-of .ensures)
+      (c .before .before .before .if6 .left) (c .if7 .taken) in
+      node (l .before) (Marking.stop {m₂ = l .loop .marks} (l .loop .inv .2) kid (c .before .before .before .before .loop-test .taken) refl)
+
+  returns-8 : N lts.Need-returns-8
+  returns-8 c = let x = c .before .before .before .before .before .before in let l = x .before .before .before .before .before in let s = l .before .before in
+      let a = s .before .before .before .before .before .before .before .before .before .before .before .before .args in
+      let kid = Crawling.kid-live (2 ^ a .bits) (a .top) (a .board .now) (a .h - 1) (a .k) (a .n) (l .loop .j) (s .span .ensures .is) (x .before .before .cell .ensures) (x .before .low-of .ensures)
+      (x .before .before .before .if6 .left) (c .before .before .before .before .block-of .ensures) (x .if7 .left) (c .before .before .before .crawl .ensures) in
+      node (l .before) (Marking.stop (l .loop .inv .2) kid (x .before .before .before .before .loop-test .taken) (not-true _ (c .if8 .taken)))
+
+  loop-again : N lts.Need-loop-again
+  loop-again c = let x = c .before .before .before .before .before .before in let l = x .before .before .before .before .before in let s = l .before .before in
+      let a = s .before .before .before .before .before .before .before .before .before .before .before .before .args in
+      let kid = Crawling.kid-live (2 ^ a .bits) (a .top) (a .board .now) (a .h - 1) (a .k) (a .n) (l .loop .j) (s .span .ensures .is) (x .before .before .cell .ensures) (x .before .low-of .ensures)
+      (x .before .before .before .if6 .left) (c .before .before .before .before .block-of .ensures) (x .if7 .left) (c .before .before .before .crawl .ensures) in
+      (omega arith, c .before .before .before .crawl .kept .1 .1 .0 ∙ l .loop .inv .1, Marking.step (l .loop .inv .2) kid (not-false _ (c .if8 .left)))
+
+  returns-9 : N lts.Need-returns-9
+  returns-9 c = node (c .before .before) (Marking.all (c .before .loop .inv .2) (omega arith))
 
 pub +crawl-spec : {M : Type 1} → statement M
 +crawl-spec = close μ λ t. lts.spec (known t) (at t) crawl.Post Inv-loop μ-loop
@@ -143,23 +146,28 @@ pub +crawl-spec : {M : Type 1} → statement M
     (returns-3 t)
     (λ c. search needs)
     (returns-4 t)
+    (mark-data-requires t)
+    (λ c. search needs)
+    (returns-5 t)
     (λ c. omega arith)
     (span-requires t)
     (λ c κs. search needs)
     (loop-holds t)
     (mul-first t)
-    (λ c κs. search needs)
-    (λ c κs. search needs)
-    (λ c. search needs)
-    (returns-5 t)
-    (λ c. omega arith)
-    (λ c κs. search needs)
-    (λ c. omega arith)
-    (λ c κs. search needs)
     (λ c. search needs)
     (returns-6 t)
+    (λ c κs. search needs)
+    (λ c κs. search needs)
+    (λ c. search needs)
+    (returns-7 t)
+    (λ c. omega arith)
+    (λ c κs. search needs)
+    (λ c. omega arith)
+    (λ c κs. search needs)
+    (λ c. search needs)
+    (returns-8 t)
     (λ c. omega arith)
     (λ c. omega arith)
     (loop-again t)
     (λ c. search needs)
-    (returns-7 t)
+    (returns-9 t)
