@@ -8,7 +8,7 @@ use native.Mathlib.Numerals.{sub-one}
 use lib.ListN.{length}
 use Rattle.model.specs.Lists.{joined}
 use Rattle.model.specs.Tree.{span, link}
-use Rattle.model.specs.Fresh.{Page, part, build}
+use Rattle.model.specs.Fresh.{Page, part, partLength, build}
 use Rattle.model.specs.InPlace.{tailNeed, tailBefore, tailPages}
 use Rattle.model.proofs.Cases.{joined-none, length-joined}
 use Rattle.model.proofs.Sums.{sum-cong}
@@ -19,6 +19,8 @@ use Rattle.model.proofs.Tailed.{length-tail}
 use Rattle.plans.specs.Onto.{taking}
 use Rattle.taking.specs.Taking.{Took}
 use Rattle.taking.proofs.Taken as Taken
+use Rattle.taking.proofs.Ends as Ends
+use Rattle.taking.proofs.Ends.{Along}
 use Rattle.taking.proofs.Tails.{joined-next, part-none, before-next}
 
 module _ (W : ℕ) (b free : List ℕ) where
@@ -80,7 +82,7 @@ module _ (W : ℕ) (b free : List ℕ) (h k n : ℕ) (new : List ℕ) {c base : 
   took-tree high live e p = Taken.same-pages (ap (λ (i : ℕ). joined i (kidPages W b free (h - 1) k n new c)) e ∙ sym (tree-pages W b free h k n new c high live)) (p .took)
 
 module _ {W : ℕ} (pos : 0 < W) {b free : List ℕ} {h k n : ℕ} {new : List ℕ} {c base : ℕ} {plan : List ℕ} where
-  pub pages-start : Paged W b free h k n new c base 0 plan plan c
+  pages-start : Paged W b free h k n new c base 0 plan plan c
   unfolding joined
   pages-start = record { took = Taken.none }
 
@@ -91,7 +93,7 @@ module _ {W : ℕ} (pos : 0 < W) {b free : List ℕ} {h k n : ℕ} {new : List �
 
     module _ {s : ℕ} {own : List ℕ} (es : s ≡ span W h) (ep : own ≡ part s j n new) where
       -- nothing is written under child j
-      pub pages-skip : length own ≡ 0 → Paged W b free h k n new c base (j + 1) plan plan′ taken
+      pages-skip : length own ≡ 0 → Paged W b free h k n new c base (j + 1) plan plan′ taken
       pages-skip e =
           let kid : ℕ → List Page = kidPages W b free h k n new c in
           let none : kid j ≡ [] = empty-pages W b free pos h _ _ (part (span W h) j n new) _ (rw (← es, ← ep) e) in
@@ -108,3 +110,16 @@ module _ {W : ℕ} (pos : 0 < W) {b free : List ℕ} {h k n : ℕ} {new : List �
       -- what child j takes is among what all take
       pub pages-room : {left : ℕ} → j < W → left ≡ n - j * s → taken + tailNeed W h left (length own) ≤ c + tailBefore W h n (length new) W
       pages-room less el = rw (el, ep, es, length-part (span W h) j n new) (omega (arith, pages-count, before-next W h n (length new) j less))
+
+  module _ {s : ℕ} (es : s ≡ span W h) where
+    skip : (taken : ℕ) (plan′ : List ℕ) (j : ℕ) → partLength s j n (length new) ≡ 0 → Paged W b free h k n new c base j plan plan′ taken → Paged W b free h k n new c base (j + 1) plan plan′ taken
+    skip taken plan′ j e p = pages-skip p es refl (length-part s j n new ∙ e)
+
+    -- before child n / s nothing is written
+    pub pages-begin : (w : ℕ) → Along (λ j. Paged W b free h k n new c base j plan plan c) s n w (n / s)
+    pages-begin w = Ends.begin (λ j. Paged W b free h k n new c base j plan plan c) (length new) (skip c plan) w pages-start
+
+    -- nor is anything from child j on, if nothing is there
+    pub pages-over : {w j taken : ℕ} {plan′ own : List ℕ} → Along (λ j. Paged W b free h k n new c base j plan plan′ taken) s n w j → 0 < s → j < w → own ≡ part s j n new → length own ≡ 0
+        → Paged W b free h k n new c base w plan plan′ taken
+    pages-over {w} {j} {taken} {plan′} a pos less ep e = Ends.over a (length new) (skip taken plan′) pos less (sym (length-part s j n new) ∙ (rw ep at e))

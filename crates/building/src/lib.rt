@@ -170,24 +170,26 @@ pub fn tail_pages(
     let s = span(bits, g);
     let w = width(bits);
     let mut taken = c;
-    let mut j = 0;
+    // The children before n / s get no byte, and none behind one that gets none.
+    let mut j = n / s;
     while j < w {
         let own = part(new, s, j, n);
-        if own.len() != 0 {
-            let x = link_on(bits, board, grown, free, k, j);
-            let block = block_of(bits, x);
-            let left = minus(n, j * s);
-            let child = Tree {
-                height: g,
-                block: block,
-                left: left,
-            };
-            let below = Tail {
-                tree: child,
-                taken: taken,
-            };
-            taken = tail_pages(bits, board, grown, free, plan, pages, below, own);
+        if own.len() == 0 {
+            return taken;
         }
+        let x = link_on(bits, board, grown, free, k, j);
+        let block = block_of(bits, x);
+        let left = minus(n, j * s);
+        let child = Tree {
+            height: g,
+            block: block,
+            left: left,
+        };
+        let below = Tail {
+            tree: child,
+            taken: taken,
+        };
+        taken = tail_pages(bits, board, grown, free, plan, pages, below, own);
         j += 1;
     }
     taken

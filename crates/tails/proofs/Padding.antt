@@ -22,6 +22,9 @@ use Rattle.plans.specs.Laying.{Laid}
 use Rattle.plans.specs.Onto.{taking, onto, NotGrown, Pointers}
 use Rattle.plans.proofs.Onto.{onto-none}
 use Rattle.taking.proofs.Splicing.{word-cong}
+use Rattle.taking.proofs.Tails.{before-start, before-skip}
+use Rattle.taking.proofs.Ends as Ends
+use Rattle.taking.proofs.Ends.{Along}
 use Rattle.tails.specs.Stores.{hooks, wordStores, padded}
 use Rattle.tails.proofs.Children as Children
 
@@ -128,7 +131,7 @@ module _ {W : ℕ} {b : List ℕ} {hook : ℕ → ℕ → ℕ → ℕ} {h k n : 
   own-fits eo = rw (em, eo) (part-fits s j n l new u)
 
   -- nothing is written under child j
-  pub skip : most ≡ 0 → Children.Placed W b hook h k n (padded l new) c p (j + 1) plan plan′ q
+  skip : most ≡ 0 → Children.Placed W b hook h k n (padded l new) c p (j + 1) plan plan′ q
   skip e = Children.stores-skip t es (as-part refl) (length-padded (part s j n new) (own-fits refl) ∙ e)
 
   module _ {x d left taken a : ℕ} {own : List ℕ} (eo : own ≡ part s j n new) (ex : x ≡ cell W b k j) (ed : d ≡ x / W) (el : left ≡ n - j * s)
@@ -143,6 +146,24 @@ module _ {W : ℕ} {b : List ℕ} {hook : ℕ → ℕ → ℕ → ℕ} {h k n : 
     -- the stores under child j are among all
     pub room : j < W → q + length (inPlace W b hook h d left (padded most own) taken a) ≤ p + length (joined W (Children.kidStores W b hook h k n (padded l new) c))
     room = Children.stores-room t es (as-part eo) ex ed el count ea
+
+-- the children before j: what is taken there, and the stores
+pub record Done (W : ℕ) (b : List ℕ) (hook : ℕ → ℕ → ℕ → ℕ) (h k n l : ℕ) (new : List ℕ) (c p : ℕ) (plan plan′ : List ℕ) (taken q j : ℕ) : Type 0 where
+  pub count : taken ≡ c + tailBefore W h n l j
+  pub stores : Children.Placed W b hook h k n (padded l new) c p j plan plan′ q
+
+module _ {W : ℕ} {b : List ℕ} {hook : ℕ → ℕ → ℕ → ℕ} {h k n : ℕ} (l : ℕ) (new : List ℕ) {c p : ℕ} {plan : List ℕ} (u : length new ≤ l) {s : ℕ} (es : s ≡ span W h) where
+  pass : (plan′ : List ℕ) (taken q j : ℕ) → partLength s j n l ≡ 0 → Done W b hook h k n l new c p plan plan′ taken q j → Done W b hook h k n l new c p plan plan′ taken q (j + 1)
+  pass plan′ taken q j e d = record { count = d .count ∙ ap (λ (m : ℕ). c + m) (before-skip W h n l j es e); stores = skip l new u (d .stores) es refl e }
+
+  -- before child n / s nothing is written
+  pub begin : (w : ℕ) → Along (λ j. Done W b hook h k n l new c p plan plan c p j) s n w (n / s)
+  begin w = Ends.begin (λ j. Done W b hook h k n l new c p plan plan c p j) l (pass plan c p) w (record { count = omega (arith, before-start W h n l); stores = Children.stores-start })
+
+  -- nor is anything from child j on, if nothing is there
+  pub over : {plan′ : List ℕ} {taken q w j most : ℕ} → Along (λ j. Done W b hook h k n l new c p plan plan′ taken q j) s n w j → 0 < s → j < w → most ≡ partLength s j n l → most ≡ 0
+      → Children.Placed W b hook h k n (padded l new) c p w plan plan′ q
+  over {plan′} {taken} {q} a pos less em e = Ends.over a l (pass plan′ taken q) pos less (sym em ∙ e) .stores
 
 -- ---- No growth, and no block to take
 

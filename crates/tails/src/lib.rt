@@ -1,5 +1,6 @@
 // Writing at the end of a file in place: stores to words that exist. The names of arguments are those of `taking`; n is both the end of the tree's
-// visible bytes and the place where `new` is written. A block has 2 ^ bits words.
+// visible bytes and the place where `new` is written. A block has 2 ^ bits words. A loop over children of s bytes each goes from child n / s to the first
+// that gets no byte: those before and behind get none.
 use model::WalkEnd;
 use plans::Grown;
 use plans::cell_on;
@@ -84,13 +85,14 @@ fn tail_words(
     let w = width(bits);
     let to = start_of(bits, end.tree.block);
     let mut q = p;
-    let mut j = 0;
+    let mut j = n / 8;
     while j < w {
-        if part_length(8, j, n, l) != 0 {
-            let value = data_word(bits, board, grown, free, end.tree, n, new, j);
-            pair(plan, q, to + j, value);
-            q += 1;
+        if part_length(8, j, n, l) == 0 {
+            return q;
         }
+        let value = data_word(bits, board, grown, free, end.tree, n, new, j);
+        pair(plan, q, to + j, value);
+        q += 1;
         j += 1;
     }
     q
@@ -113,10 +115,14 @@ fn tail_need(bits: u64, h: u64, n: u64, l: u64) -> u64
     let s = span(bits, h - 1);
     let w = width(bits);
     let mut count = 0;
-    let mut j = 0;
+    let mut j = n / s;
     while j < w {
+        let own = part_length(s, j, n, l);
+        if own == 0 {
+            return count;
+        }
         let left = minus(n, j * s);
-        count += tail_need(bits, h - 1, left, part_length(s, j, n, l));
+        count += tail_need(bits, h - 1, left, own);
         j += 1;
     }
     count
@@ -170,28 +176,29 @@ pub fn in_place(
     let to = start_of(bits, k);
     let mut taken = c;
     let mut q = p;
-    let mut j = 0;
+    let mut j = n / s;
     // Child j gets `own`, and zeros behind it up to `most` bytes.
     while j < w {
         let most = part_length(s, j, n, l);
-        if most != 0 {
-            let own = part(new, s, j, n);
-            let block = block_of(bits, cell_on(bits, board, grown, free, k, j));
-            let left = minus(n, j * s);
-            let child = Tree {
-                height: h - 1,
-                block: block,
-                left: left,
-            };
-            let below = End {
-                tree: child,
-                at: to + j,
-                length: most,
-                taken: taken,
-            };
-            q = in_place(bits, board, grown, free, plan, q, below, own);
-            taken += tail_need(bits, h - 1, left, most);
+        if most == 0 {
+            return q;
         }
+        let own = part(new, s, j, n);
+        let block = block_of(bits, cell_on(bits, board, grown, free, k, j));
+        let left = minus(n, j * s);
+        let child = Tree {
+            height: h - 1,
+            block: block,
+            left: left,
+        };
+        let below = End {
+            tree: child,
+            at: to + j,
+            length: most,
+            taken: taken,
+        };
+        q = in_place(bits, board, grown, free, plan, q, below, own);
+        taken += tail_need(bits, h - 1, left, most);
         j += 1;
     }
     q

@@ -61,6 +61,10 @@ module _ (W h n l : ℕ) where
   unfolding tailBefore sum
   before-more j es el eo em = rw (add-one j, em, eo, el, es)
 
+  -- a child that gets no byte takes none
+  pub before-skip : (j : ℕ) {s : ℕ} → s ≡ span W h → partLength s j n l ≡ 0 → tailBefore W h n l j ≡ tailBefore W h n l (j + 1)
+  before-skip j {s} es e = omega (arith, before-more j es refl refl refl, need-empty W h (n - j * s) (partLength s j n l) e)
+
   pub before-within : (j : ℕ) → j < W → tailBefore W h n l (j + 1) ≤ tailBefore W h n l W
   unfolding tailBefore
   before-within j less = sum-mono (λ i. tailNeed W h (n - i * span W h) (partLength (span W h) i n l)) (j + 1) W (omega arith)

@@ -1,6 +1,5 @@
 -- The measure is the height; the loop has laid the stores under the children before j, and counted the blocks taken there.
 use mathlib.Core.Path.{_≡_, refl, sym, ap, _∙_}
-use mathlib.Core.Logic.{⊎-elim}
 use mathlib.Core.List.{List}
 use Prim.Native.Nat.{ℕ, _+_, _-_, _*_, _^_, _≤_, _<_}
 use native.Mathlib.Nat.{mul-le-mul}
@@ -17,12 +16,14 @@ use Rattle.words.proofs.start_of.Reads as start-of-reads
 use Rattle.words.proofs.width.Reads as width-reads
 use Rattle.trees.proofs.Reaching.{lower}
 use Rattle.trees.proofs.span.Reads as span-reads
+use Rattle.plans.specs.Laying.{Laid}
 use Rattle.plans.specs.Onto.{onto}
 use Rattle.plans.proofs.Laying as Laying
 use Rattle.plans.proofs.cell_on.Reads as cell-on-reads
 use Rattle.plans.proofs.pair.Reads as pair-reads
 use Rattle.words.proofs.minus.Reads as minus-reads
 use Rattle.taking.proofs.Tails as Tails
+use Rattle.taking.proofs.Ends.{Along, here, next, done}
 use Rattle.taking.proofs.part.Reads as part-reads
 use Rattle.taking.proofs.part_length.Reads as part-length-reads
 use Rattle.tails.specs.Stores.{hooks, wordStores, padded}
@@ -78,7 +79,7 @@ known t = (
 
 abbrev Inv-loop : lts.InvT-loop
 Inv-loop bits board grown free plan₀ p new h k n l c a s w to taken₀ q₀ j₀ plan taken q j =
-    (j ≤ w) × (taken ≡ c + tailBefore (2 ^ bits) (h - 1) n l j) × Children.Placed (2 ^ bits) (onto (2 ^ bits) free board grown) (hooks (2 ^ bits) free) (h - 1) k n (padded l new) c p j plan₀ plan q
+    Along (λ i. Padding.Done (2 ^ bits) (onto (2 ^ bits) free board grown) (hooks (2 ^ bits) free) (h - 1) k n l new c p plan₀ plan taken q i) s n w j
 
 abbrev μ-loop : lts.MeasureT-loop
 μ-loop bits board grown free plan₀ p new h k n l c a s w to taken₀ q₀ j₀ plan taken q j = w - j
@@ -142,13 +143,13 @@ module _ (t : ℕ) where
   start-of-requires c κs = let s = start (c .before .before .before) in (search needs, omega (arith, s .pre .1 .1, Widths.least (s .pre .1 .0 .width)))
 
   loop-holds : N lts.Need-loop-holds
-  loop-holds c = let a = start (c .before .before .before .before) .args in (omega arith, omega (arith, Tails.before-start (2 ^ a .bits) (a .end .tree .height - 1) (a .end .tree .left) (a .end .length)), Children.stores-start)
+  loop-holds c = let z = c .before .before in let s = start (z .before .before) in Padding.begin (s .args .end .length) (s .args .new .now) (s .pre .1 .3) (z .span .ensures .is) (c .before .width .result)
 
   part-length-requires : N lts.Need-part-length-requires
-  part-length-requires c κs = let w = c .before .before .before in (omega (arith, w .before .span .ensures .high), omega (arith, w .width .ensures .most))
+  part-length-requires c κs = let w = c .before .before .before in (omega (arith, w .before .span .ensures .high), omega (arith, c .loop-test .taken, w .width .ensures .most))
 
   part-requires : N lts.Need-part-requires
-  part-requires c κs = let w = found (c .before) .before .before in (omega (arith, w .before .span .ensures .high), omega (arith, w .width .ensures .most))
+  part-requires c κs = let w = found (c .before) .before .before in (omega (arith, w .before .span .ensures .high), omega (arith, c .before .before .loop-test .taken, w .width .ensures .most))
 
   mul-minus : N lts.Need-mul-minus
   mul-minus c = let p = c .before .before .before .before in omega (arith, mul-le-mul (p .before .loop-test .taken) (found p .before .before .before .span .ensures .high))
@@ -168,7 +169,7 @@ module _ (t : ℕ) where
       left ≡ s .args .end .tree .left - l .loop .j * l .before .before .before .span .result → own ≡ partLength (l .before .before .before .span .result) (l .loop .j) (s .args .end .tree .left) (s .args .end .length)
       → m ≡ tailNeed (2 ^ s .args .bits) (s .args .end .tree .height - 1) left own → l .loop .taken + m ≡ s .args .end .taken + tailBefore (2 ^ s .args .bits) (s .args .end .tree .height - 1) (s .args .end .tree .left) (s .args .end .length) (l .loop .j + 1)
   taken-next i el eo em = let l = i .before in let s = start (tall l .before) in
-      omega (arith, l .loop .inv .1, Tails.before-more (2 ^ s .args .bits) (s .args .end .tree .height - 1) (s .args .end .tree .left) (s .args .end .length) (l .loop .j) (l .before .before .before .span .ensures .is) el eo em)
+      omega (arith, here (l .loop .inv) (i .loop-test .taken) .count, Tails.before-more (2 ^ s .args .bits) (s .args .end .tree .height - 1) (s .args .end .tree .left) (s .args .end .length) (l .loop .j) (l .before .before .before .span .ensures .is) el eo em)
 
   -- it is among all that is taken
   taken-small : (i : N lts.In-loop) → let l = i .before in let s = start (tall l .before) in
@@ -194,14 +195,15 @@ module _ (t : ℕ) where
       let s = start (v .before) in
       let a = s .args in
       let size = l .before .before .before .span .ensures .is in
-      let stores = Padding.room (a .end .length) (a .new .now) (s .pre .1 .3) (l .loop .inv .2) size (p .part-length .ensures) (own .part .ensures) (x .cell-on .ensures) (d .block-of .ensures) (m .minus .ensures) (l .loop .inv .1) (address l) (less i) in
+      let so = here (l .loop .inv) (i .loop-test .taken) in
+      let stores = Padding.room (a .end .length) (a .new .now) (s .pre .1 .3) (so .stores) size (p .part-length .ensures) (own .part .ensures) (x .cell-on .ensures) (d .block-of .ensures) (m .minus .ensures) (so .count) (address l) (less i) in
       let all = Children.tree-stores (2 ^ a .bits) (seen s) (hooks (2 ^ a .bits) (a .free .now)) (a .end .tree .height) (a .end .tree .block) (a .end .tree .left) (bytes s) (a .end .taken) (a .end .at) (v .if4 .left) (v .before .if3 .left) (v .before .before .if1 .left) in (
         omega (arith, s .pre .0, v .if4 .left),
         (
           lower (s .pre .1 .0),
           rw (d .block-of .ensures) (Widths.address-room (s .pre .1 .0 .width) (x .cell-on .result) (omega arith)),
           s .pre .1 .2,
-          Padding.own-fits (a .end .length) (a .new .now) (s .pre .1 .3) (l .loop .inv .2) size (p .part-length .ensures) (own .part .ensures),
+          Padding.own-fits (a .end .length) (a .new .now) (s .pre .1 .3) (so .stores) size (p .part-length .ensures) (own .part .ensures),
           omega (arith, taken-next i (m .minus .ensures) (p .part-length .ensures) refl, taken-small i),
           omega (arith, s .pre .1 .5, stores, ap length all),
         ),
@@ -218,32 +220,46 @@ module _ (t : ℕ) where
 
   loop-again : N lts.Need-loop-again
   loop-again c =
-      let p = c .before in
+      let t = c .before .before .before in
+      let m = t .before .before in
+      let d = m .before in
+      let x = d .before in
+      let own = x .before in
+      let p = own .before .before in
       let i = p .before in
       let l = i .before in
       let s = start (tall l .before) in
       let a = s .args in
-      let size = l .before .before .before .span .ensures .is in
-      ⊎-elim
-      (λ w. rw (w .10, w .11, w .12) (
-        omega arith,
-        taken-next i (w .4 .ensures) (p .part-length .ensures) (w .9 .ensures .is),
-        Padding.step (a .end .length) (a .new .now) (s .pre .1 .3) (l .loop .inv .2) size (p .part-length .ensures) (w .1 .ensures) (w .2 .ensures) (w .3 .ensures) (w .4 .ensures) (l .loop .inv .1) (address l) (w .6 .ensures),
-      ))
-      (λ w. rw (w .1, w .2, w .3) (
-        omega arith,
-        omega (arith, taken-next i refl (p .part-length .ensures) (sym (Tails.need-empty (2 ^ a .bits) (a .end .tree .height - 1) _ (p .part-length .result) (w .0 .left)))),
-        Padding.skip (a .end .length) (a .new .now) (s .pre .1 .3) (l .loop .inv .2) size (p .part-length .ensures) (w .0 .left),
-      ))
-      (c .if5 .came)
+      let so = here (l .loop .inv) (i .loop-test .taken) in
+      next (l .loop .inv) (i .loop-test .taken) (record {
+        count = taken-next i (m .minus .ensures) (p .part-length .ensures) (c .tail-need .ensures .is);
+        stores = Padding.step (a .end .length) (a .new .now) (s .pre .1 .3) (so .stores) (l .before .before .before .span .ensures .is) (p .part-length .ensures) (own .part .ensures) (x .cell-on .ensures) (d .block-of .ensures) (m .minus .ensures) (so .count) (address l) (t .in-place .ensures);
+      })
+
+  -- all children
+  tree : (l : N lts.At-loop) → let s = start (tall l .before) in let a = s .args in
+      Children.Placed (2 ^ a .bits) (seen s) (hooks (2 ^ a .bits) (a .free .now)) (a .end .tree .height - 1) (a .end .tree .block) (a .end .tree .left) (bytes s) (a .end .taken) (a .p) (l .before .before .width .result) (a .plan .now) (l .loop .plan) (l .loop .q)
+      → Laid (a .plan .now) (a .p) (inPlace (2 ^ a .bits) (seen s) (hooks (2 ^ a .bits) (a .free .now)) (a .end .tree .height) (a .end .tree .block) (a .end .tree .left) (bytes s) (a .end .taken) (a .end .at)) (l .loop .plan) (l .loop .q)
+  tree l = let v = tall l in let s = start (v .before) in let a = s .args in
+      Children.laid-tree (2 ^ a .bits) (seen s) (hooks (2 ^ a .bits) (a .free .now)) (a .end .tree .height) (a .end .tree .block) (a .end .tree .left) (bytes s) (a .end .taken) (a .end .at)
+      (v .if4 .left) (v .before .if3 .left) (v .before .before .if1 .left) (l .before .before .width .ensures .is)
 
   same-length-3 : N lts.Need-same-length-3
-  same-length-3 c = Laying.same-length (c .before .loop .inv .2 .laid)
+  same-length-3 c = Laying.same-length (found (c .before) .loop .inv .holds .stores .laid)
 
   returns-5 : N lts.Need-returns-5
-  returns-5 c = let l = c .before in let v = tall l in let s = start (v .before) in let a = s .args in
-      Children.laid-tree (2 ^ a .bits) (seen s) (hooks (2 ^ a .bits) (a .free .now)) (a .end .tree .height) (a .end .tree .block) (a .end .tree .left) (bytes s) (a .end .taken) (a .end .at)
-      (v .if4 .left) (v .before .if3 .left) (v .before .before .if1 .left) (omega (arith, l .before .before .width .ensures .is)) (l .loop .inv .2)
+  returns-5 c =
+      let p = c .before in
+      let l = found p in
+      let s = start (tall l .before) in
+      let z = l .before .before .before .span .ensures in
+      tree l (Padding.over (s .args .end .length) (s .args .new .now) (s .pre .1 .3) (z .is) (l .loop .inv) (omega (arith, z .low)) (p .before .loop-test .taken) (p .part-length .ensures) (c .if5 .taken))
+
+  same-length-4 : N lts.Need-same-length-4
+  same-length-4 c = Laying.same-length (c .before .loop .inv .holds .stores .laid)
+
+  returns-6 : N lts.Need-returns-6
+  returns-6 c = tree (c .before) (done (c .before .loop .inv) (omega arith) .stores)
 
 pub +in-place-spec : {M : Type 1} → statement M
 +in-place-spec = close μ λ t. lts.spec (known t) (at t) in-place.Post Inv-loop μ-loop
@@ -261,8 +277,11 @@ pub +in-place-spec : {M : Type 1} → statement M
     (span-requires t)
     (λ c κs. search needs)
     (start-of-requires t)
+    (λ c. omega (arith, c .before .before .span .ensures .low))
     (loop-holds t)
     (part-length-requires t)
+    (same-length-3 t)
+    (returns-5 t)
     (part-requires t)
     (λ c κs. search needs)
     (λ c κs. search needs)
@@ -277,5 +296,5 @@ pub +in-place-spec : {M : Type 1} → statement M
     (λ c. omega arith)
     (λ c. omega arith)
     (loop-again t)
-    (same-length-3 t)
-    (returns-5 t)
+    (same-length-4 t)
+    (returns-6 t)

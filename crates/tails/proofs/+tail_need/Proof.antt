@@ -1,6 +1,6 @@
 -- The measure is the height; the loop has counted what is taken under the children before j.
-use mathlib.Core.Path.{_≡_, sym, _∙_}
-use Prim.Native.Nat.{ℕ, _+_, _-_, _^_, _≤_, _<_}
+use mathlib.Core.Path.{_≡_, sym, ap, _∙_}
+use Prim.Native.Nat.{ℕ, _+_, _-_, _^_, _<_}
 use native.Mathlib.Nat.{mul-le-mul}
 use native.Mathlib.Omega.{arith}
 use borrow.Author.Needs.{needs}
@@ -14,6 +14,7 @@ use Rattle.trees.proofs.span.Reads as span-reads
 use Rattle.taking.specs.Taking.{TreeCount}
 use Rattle.taking.proofs.WholeTrees.{whole-small}
 use Rattle.taking.proofs.Tails as Tails
+use Rattle.taking.proofs.Ends as Ends
 use Rattle.words.proofs.minus.Reads as minus-reads
 use Rattle.taking.proofs.part_length.Reads as part-length-reads
 use Rattle.taking.proofs.tree_need.Reads as tree-need-reads
@@ -41,16 +42,16 @@ known t = (
   span-reads.Learnt,
   width-reads.Asked,
   width-reads.Learnt,
-  minus-reads.Asked,
-  minus-reads.Learnt,
   part-length-reads.Asked,
   part-length-reads.Learnt,
+  minus-reads.Asked,
+  minus-reads.Learnt,
   below t,
   tail-need.Post,
 )
 
 abbrev Inv-loop : lts.InvT-loop
-Inv-loop bits h n l s w count₀ j₀ count j = (j ≤ w) × (count ≡ tailBefore (2 ^ bits) (h - 1) n l j)
+Inv-loop bits h n l s w count₀ j₀ count j = Ends.Along (λ i. count ≡ tailBefore (2 ^ bits) (h - 1) n l i) s n w j
 
 abbrev μ-loop : lts.MeasureT-loop
 μ-loop bits h n l s w count₀ j₀ count j = w - j
@@ -84,33 +85,38 @@ module _ (t : ℕ) where
   span-requires c κs = lower (c .before .before .before .pre .1)
 
   loop-holds : N lts.Need-loop-holds
-  loop-holds c = (omega arith, Tails.before-start _ _ _ _)
+  loop-holds c = let a = c .before .before .before .before .before .args in let W : ℕ = 2 ^ a .bits in
+      Ends.begin (λ i. 0 ≡ tailBefore W (a .h - 1) (a .n) (a .l) i) (a .l) (λ i e p. p ∙ Tails.before-skip W (a .h - 1) (a .n) (a .l) i (c .before .span .ensures .is) e) (c .width .result) (Tails.before-start _ _ _ _)
 
   mul-minus : N lts.Need-mul-minus
-  mul-minus c = omega (arith, mul-le-mul (c .loop-test .taken) (c .before .before .before .span .ensures .high))
+  mul-minus c = let i = c .before .before in omega (arith, mul-le-mul (i .loop-test .taken) (i .before .before .before .span .ensures .high))
 
   part-length-requires : N lts.Need-part-length-requires
-  part-length-requires c κs = let w = c .before .before .before in (omega (arith, w .before .span .ensures .high), omega (arith, w .width .ensures .most))
+  part-length-requires c κs = let w = c .before .before in (omega (arith, w .before .span .ensures .high), omega (arith, c .loop-test .taken, w .width .ensures .most))
 
   tail-need-requires : N lts.Need-tail-need-requires
-  tail-need-requires c κs = let l = c .before .before .before in let s = start l in (omega (arith, s .pre .0, l .before .before .before .if3 .left), lower (s .pre .1))
+  tail-need-requires c κs = let l = c .before .before .before .before in let s = start l in (omega (arith, s .pre .0, l .before .before .before .if3 .left), lower (s .pre .1))
 
   -- what is taken under child j
-  next : (c : N lts.After-tail-need) → let l = c .before .before .before .before in let s = start l in
+  next : (c : N lts.After-tail-need) → let l = c .before .before .before .before .before in let s = start l in
       tailBefore (2 ^ s .args .bits) (s .args .h - 1) (s .args .n) (s .args .l) (l .loop .j) + c .tail-need .result ≡ tailBefore (2 ^ s .args .bits) (s .args .h - 1) (s .args .n) (s .args .l) (l .loop .j + 1)
-  next c = let l = c .before .before .before .before in let s = start l in
-      Tails.before-more (2 ^ s .args .bits) (s .args .h - 1) (s .args .n) (s .args .l) (l .loop .j) (l .before .before .span .ensures .is) (c .before .before .minus .ensures) (c .before .part-length .ensures) (c .tail-need .ensures .is)
+  next c = let l = c .before .before .before .before .before in let s = start l in
+      Tails.before-more (2 ^ s .args .bits) (s .args .h - 1) (s .args .n) (s .args .l) (l .loop .j) (l .before .before .span .ensures .is) (c .before .minus .ensures) (c .before .before .before .part-length .ensures) (c .tail-need .ensures .is)
+
+  counted : (i : N lts.In-loop) → let l = i .before in let s = start l in l .loop .count ≡ tailBefore (2 ^ s .args .bits) (s .args .h - 1) (s .args .n) (s .args .l) (l .loop .j)
+  counted i = Ends.here (i .before .loop .inv) (i .loop-test .taken)
 
   -- all that is taken is a word
-  small : (c : N lts.After-tail-need) → let l = c .before .before .before .before in l .loop .count + c .tail-need .result < 134217728
+  small : (c : N lts.After-tail-need) → let l = c .before .before .before .before .before in l .loop .count + c .tail-need .result < 134217728
   small c =
-      let l = c .before .before .before .before in
+      let i = c .before .before .before .before in
+      let l = i .before in
       let s = start l in
       let W : ℕ = 2 ^ s .args .bits in
-      let less : l .loop .j < W = omega (arith, c .before .before .before .loop-test .taken, l .before .width .ensures .is) in
+      let less : l .loop .j < W = omega (arith, i .loop-test .taken, l .before .width .ensures .is) in
       omega (
         arith,
-        l .loop .inv .1,
+        counted i,
         next c,
         Tails.before-within W (s .args .h - 1) (s .args .n) (s .args .l) (l .loop .j) less,
         Tails.need-tree W (s .args .h) (s .args .n) (s .args .l) (l .before .before .before .if3 .left) (l .before .before .before .before .if2 .left),
@@ -123,16 +129,28 @@ module _ (t : ℕ) where
   add-count c = omega (arith, small c)
 
   loop-again : N lts.Need-loop-again
-  loop-again c = let l = c .before .before .before .before in (omega arith, rw (l .loop .inv .1) (next c))
+  loop-again c = let i = c .before .before .before .before in let l = i .before in Ends.next (l .loop .inv) (i .loop-test .taken) (rw (counted i) (next c))
+
+  -- what all children take is what the tree takes
+  tree : (l : N lts.At-loop) → let a = start l .args in l .loop .count ≡ tailBefore (2 ^ a .bits) (a .h - 1) (a .n) (a .l) (l .before .width .result)
+      → TreeCount (2 ^ a .bits) (a .h) (tailNeed (2 ^ a .bits) (a .h) (a .n) (a .l)) (l .loop .count)
+  tree l e = let s = start l in let a = s .args in
+      needed (a .n) (a .l) (s .pre .1) (
+      e ∙ ap (tailBefore (2 ^ a .bits) (a .h - 1) (a .n) (a .l)) (l .before .width .ensures .is)
+      ∙ sym (Tails.need-tree (2 ^ a .bits) (a .h) (a .n) (a .l) (l .before .before .before .if3 .left) (l .before .before .before .before .if2 .left))
+      )
 
   returns-4 : N lts.Need-returns-4
   returns-4 c =
-      let l = c .before in
-      let s = start l in
-      let all : l .loop .j ≡ 2 ^ s .args .bits = omega (arith, l .before .width .ensures .is) in
-      needed (s .args .n) (s .args .l) (s .pre .1) (
-      rw all at (l .loop .inv .1) ∙ sym (Tails.need-tree (2 ^ s .args .bits) (s .args .h) (s .args .n) (s .args .l) (l .before .before .before .if3 .left) (l .before .before .before .before .if2 .left))
-      )
+      let p = c .before in
+      let i = p .before in
+      let l = i .before in
+      let z = l .before .before .span .ensures in
+      let a = start l .args in
+      tree l (Ends.over (l .loop .inv) (a .l) (λ x e q. q ∙ Tails.before-skip (2 ^ a .bits) (a .h - 1) (a .n) (a .l) x (z .is) e) (omega (arith, z .low)) (i .loop-test .taken) (sym (p .part-length .ensures) ∙ c .if4 .taken))
+
+  returns-5 : N lts.Need-returns-5
+  returns-5 c = tree (c .before) (Ends.done (c .before .loop .inv) (omega arith))
 
 pub +tail-need-spec : {M : Type 1} → statement M
 +tail-need-spec = close μ λ t. lts.spec (known t) (at t) tail-need.Post Inv-loop μ-loop
@@ -143,14 +161,16 @@ pub +tail-need-spec : {M : Type 1} → statement M
     (λ c. omega arith)
     (span-requires t)
     (λ c κs. search needs)
+    (λ c. omega (arith, c .before .span .ensures .low))
     (loop-holds t)
+    (part-length-requires t)
+    (returns-4 t)
     (mul-minus t)
     (λ c κs. search needs)
-    (λ c. omega (arith, c .before .before .before .before .before .if3 .left))
-    (part-length-requires t)
+    (λ c. omega (arith, c .before .before .before .before .before .before .before .if3 .left))
     (tail-need-requires t)
     (add-count t)
     (λ c. omega arith)
     (λ c. omega arith)
     (loop-again t)
-    (returns-4 t)
+    (returns-5 t)
