@@ -41,10 +41,10 @@ use Rattle.model.specs.declared.WalkEnd.the-variants.{Block, Hole}
 use Rattle.model.specs.Lists.{tabulate, occ}
 use Rattle.model.specs.Layout.{Layout, house, published}
 use Rattle.model.specs.Tree.{least}
-use Rattle.model.specs.Board.{greatest, walkTo, contents, fileSound, treesSound}
+use Rattle.model.specs.Board.{greatest, inodeOf, walkTo, contents, fileSound, treesSound}
 use Rattle.model.specs.Store.{store, flat, laid}
 use Rattle.model.specs.Plan.{pairs}
-use Rattle.model.specs.Change.{writePlan, lengthPlan}
+use Rattle.model.specs.Change.{growth, writePlan, lengthPlan}
 use Rattle.model.specs.Format.{formatPlan}
 use Rattle.model.specs.Hidden.{hidden}
 use Rattle.model.specs.GivenUp.{lengthGives, writeGives}
@@ -236,13 +236,17 @@ class Vectors:
         self.holds('file', words, 'fileSound LAYOUT BOARD %d' % file, B.check(words, self.layout) != -3)
 
     def pairs(self, kind, words, plan, pairs):
-        self.add(kind, words, 'sameList (flat (pairs (%s))) %s' % (plan, numbers([x for pair in pairs for x in pair])))
+        """FRESH in the plan is the model's list of the free blocks."""
+        fresh = '(λ i. getD %s i 0)' % numbers(B.Survey(words, self.layout).free)
+        self.add(kind, words, 'sameList (flat (pairs (%s))) %s' % (plan.replace('FRESH', fresh), numbers([x for pair in pairs for x in pair])))
 
     def write_pairs(self, words, file, offset, new):
-        """With the free blocks as the model has them."""
-        free = numbers(B.Survey(words, self.layout).free)
-        self.pairs('write', words, 'writePlan LAYOUT (λ i. getD %s i 0) BOARD %d %d %s' % (free, file, offset, numbers(new)),
-                   self.plan_write(words, file, offset, new).pairs())
+        self.pairs('write', words, 'writePlan LAYOUT FRESH BOARD %d %d %s' % (file, offset, numbers(new)), self.plan_write(words, file, offset, new).pairs())
+
+    def growth_pairs(self, words, file, end):
+        """The first two epochs of a write of one byte."""
+        level, root = self.plan_write(words, file, end - 1, [7]).epochs[:2]
+        self.pairs('growth', words, 'growth LAYOUT FRESH (inodeOf LAYOUT BOARD %d) %d' % (file, end), level + [(B.BARRIER, 0)] + root)
 
     def length_pairs(self, words, file, length):
         self.pairs('length', words, 'lengthPlan LAYOUT BOARD %d %d' % (file, length), self.length_plan(words, file, length))
@@ -492,7 +496,7 @@ def at_random(vectors, rnd, count):
 def narrow(vectors, rnd):
     """Calls on boards of the narrow layout; how many ways of planning they go."""
     vectors.on('narrow', NARROW)
-    ways = every_way(vectors, rnd, offset_within, ways_within, 1000) + every_way(vectors, rnd, offset_past, ways_past, 500)
+    ways = every_way(vectors, rnd, offset_within, ways_within, 600) + every_way(vectors, rnd, offset_past, ways_past, 300)
     null_on_path(vectors, rnd, [(1, 160), (1, 170), (1, 320)])
     past_the_end(vectors, rnd, NARROW_PAST)
     each_damage(vectors, rnd, 1, 380, (0, 320))
@@ -571,20 +575,20 @@ def turned_away(vectors, words):
         vectors.check(with_word(words, at, value))
     for at, value in [(512, 0), (512, 1025), (512, 512), (512, 7680), (513, 1), (514, 512 * 5)]:
         vectors.trees_sound(with_word(words, at, value))
-    for at, value in [(1034, 512 * 4 + 2), (1034, 512 * 4 + 511), (1034, 512 * 15), (1034, 0), (1034, 1), (1034, 2), (1034, 511), (1035, 2097152), (1035, 2097153)]:
+    for at, value in [(1034, 512 * 4 + 2), (1034, 512 * 15), (1034, 1), (1034, 2), (1034, 511), (1035, 2097152), (1035, 2097153)]:
         vectors.file_sound(with_word(words, at, value), 5)
 
 
 def with_a_node(vectors, words):
     vectors.file_sound(words, 3)
-    for at, value in [(512, 512 * 12 + 1), (512, 512 * 12 + 511), (512, 512 * 16)]:
+    for at, value in [(512, 512 * 12 + 511), (512, 512 * 16)]:
         vectors.file_sound(with_word(words, at, value), 3)
     start = len(vectors.all)
     for file, byte in [(3, 0), (3, 4095), (3, 4096), (3, 2097151), (3, 2097152), (5, 4095), (5, 4096)]:
         vectors.walk(words, file, byte)
     vectors.as_one(start)
     vectors.write_pairs(words, 3, 4090, list(range(20)))
-    vectors.write_pairs(words, 5, 4096, [1, 2, 3])
+    vectors.growth_pairs(words, 5, 4097)
     vectors.write_pairs(words, 7, 2, [1, 2, 3])
     vectors.length_pairs(words, 3, 4100)
     vectors.format_pairs(words)
