@@ -2,7 +2,7 @@
 use mathlib.Core.Path.{_≡_, _∙_}
 use mathlib.Core.List.{List}
 use Prim.Native.Nat.{ℕ, _+_, _-_, _*_, _/_, _%_, _≤_, _<_, min}
-use native.Mathlib.Nat.{mod-lt, div-add-mod'}
+use native.Mathlib.Nat.{mod-lt, div-add-mod', div-mul-le-self, mul-comm, mul-le-mul-left, mul-suc}
 use native.Mathlib.Omega.{arith}
 use lib.Arith.{digits-div, digits-mod}
 use lib.ListN.{length, take, drop}
@@ -28,6 +28,10 @@ whole-word W b k from w ex i l =
     let q : (8 * from + (8 * w + i)) / 8 ≡ from + w = omega arith in
     let r : (8 * from + (8 * w + i)) % 8 ≡ i = omega arith in
     rw (q, r, ← ex)
+
+-- words of a block that lies on a board of n words lie there
+pub on-board : (W n k j : ℕ) → k < n / W → j ≤ W → W * k + j ≤ n
+on-board W n k j l u = omega (arith, div-mul-le-self n W, mul-comm (n / W) W, mul-le-mul-left W l, mul-suc W k)
 
 -- a hole shows zeros
 pub hole-zeros : (W : ℕ) (b : List ℕ) (from : ℕ) {out out′ : List ℕ} {n : ℕ} → Filled (λ j. 0) n out out′ → Filled (λ j. shown W b Hole (from + j)) n out out′

@@ -1,10 +1,12 @@
 // The bytes of a file, block by block.
 use model::WalkEnd;
 use trees::root_walk;
+use words::block_of;
 use words::byte;
 use words::cell;
 use words::low_of;
 use words::spread;
+use words::start_of;
 use words::width;
 ghost use mathlib.Core.Path.{_≡_};
 ghost use Prim.Native.Nat.{_+_, _*_, _^_, _≤_, min};
@@ -41,11 +43,33 @@ fn copy_bytes(bits: u64, board: &[u64], k: u64, from: u64, n: usize, out: &mut [
     }
 }
 
-// n words of block k, from word `from` of it on, to the front of a buffer.
+// n words of block k, from word `from` of it on, to the front of a buffer, where all of them are on the board: no word is tested, so that several are
+// copied at once.
+fn copy_run(bits: u64, board: &[u64], k: u64, from: u64, n: usize, out: &mut [u8])
+    requires { ⌜ (8 * n ≤ length (now out)) × (2 ^ bits * k + (from + n) ≤ length (now board)) × Width bits ⌝ }
+    ensures { λ _. ⌜ Filled (λ j. shown (2 ^ bits) (now (board .entry)) (Block k) (8 * from + j)) (8 * n) (now (out .entry)) (now (out .exit)) ⌝ }
+{
+    let first = start_of(bits, k) + from;
+    let mut w = 0;
+    while w < n {
+        let x = board[(first + w as u64) as usize];
+        let at = 8 * w;
+        spread(x, &mut out[at..]);
+        w += 1;
+    }
+}
+
+// The same where they may be off it.
 fn copy_words(bits: u64, board: &[u64], k: u64, from: u64, n: usize, out: &mut [u8])
     requires { ⌜ (8 * n ≤ length (now out)) × (from ≤ 512) × Width bits ⌝ }
     ensures { λ _. ⌜ Filled (λ j. shown (2 ^ bits) (now (board .entry)) (Block k) (8 * from + j)) (8 * n) (now (out .entry)) (now (out .exit)) ⌝ }
 {
+    if k < block_of(bits, board.len() as u64) {
+        if from + n as u64 <= width(bits) {
+            copy_run(bits, board, k, from, n, out);
+            return;
+        }
+    }
     let mut w = 0;
     while w < n {
         let x = cell(bits, board, k, from + w as u64);
