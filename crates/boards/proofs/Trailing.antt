@@ -1,12 +1,14 @@
 -- Runs of zeros: the trailer from word 4 on, and the spare inode pointers.
 use mathlib.Core.Path.{_≡_, refl, sym, ap, _∙_}
-use mathlib.Core.Bool.{Bool, true, false, _&&_, and-true}
+use mathlib.Core.Logic.{_≢_}
+use mathlib.Core.Bool.{Bool, true, false, _&&_, and-true, and-false}
 use mathlib.Core.List.{List}
 use Prim.Native.Nat.{ℕ, zero, suc, _+_, _-_, _*_, _/_, _^_, _≤_, _<_}
 use native.Mathlib.Omega.{arith}
 use native.Mathlib.Nat.{add-zero, mul-le-mul-left}
 use lib.ListN.{getD}
 use lib.Dec.{eqb}
+use borrow.Author.Tests.{eq-eqb, ne-eqb}
 use Rattle.model.specs.declared.Kind.{Kind}
 use Rattle.model.specs.Lists.{every}
 use Rattle.model.specs.Layout.{Layout, Fits, layoutOf}
@@ -27,6 +29,22 @@ every-both m zero p = rw (add-zero m) (and-true (every m p))
 every-both m (suc n) p =
     let e : m + suc n ≡ suc (m + n) = omega arith in
     rw e (assoc (every m p) (every n (λ j. p (m + j))) (p (m + n)) ∙ ap (λ (t : Bool). t && p (m + n)) (every-both m n p))
+
+-- word `from` + j of the block that begins at an index is 0
+abbrev pub none : List ℕ → ℕ → ℕ → ℕ → Bool
+none b at from j = eqb (getD b (at + (from + j)) 0) 0
+
+module _ (b : List ℕ) (at from j : ℕ) (l : from ≤ j) {t : Bool} (e : t ≡ every (j - from) (none b at from)) where
+  so-far : (every (j - from) (none b at from) && eqb (getD b (at + j) 0) 0) ≡ every (j + 1 - from) (none b at from)
+  unfolding every
+  so-far = let p : from + (j - from) ≡ j = omega arith in let q : j + 1 - from ≡ suc (j - from) = omega arith in rw (q, p)
+
+  -- one word more: it is 0, or it is not
+  pub one-none : getD b (at + j) 0 ≡ 0 → t ≡ every (j + 1 - from) (none b at from)
+  one-none z = e ∙ sym (and-true (every (j - from) (none b at from))) ∙ rw (eq-eqb (getD b (at + j) 0) 0 z) at so-far
+
+  pub one-some : getD b (at + j) 0 ≢ 0 → false ≡ every (j + 1 - from) (none b at from)
+  one-some f = sym (and-false (every (j - from) (none b at from))) ∙ rw (ne-eqb (getD b (at + j) 0) 0 f) at so-far
 
 -- the trailer's words have addresses
 pub trailer-room : (kind : Kind) (n : ℕ) → n < 2 ^ 64 → layoutOf kind .words * (n / layoutOf kind .words - 1) + layoutOf kind .words ≤ 2 ^ 64

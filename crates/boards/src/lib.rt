@@ -15,7 +15,8 @@ use words::cell;
 use words::word;
 ghost use mathlib.Core.Path.{_≡_};
 ghost use Prim.Native.Nat.{_+_, _-_, _^_, _≤_, _<_};
-ghost use lib.ListN.{getD};
+ghost use lib.ListN.{length, getD};
+ghost use lib.Dec.{eqb};
 ghost use Rattle.model.specs.Lists.{every};
 ghost use Rattle.model.specs.Layout.{layoutOf};
 ghost use Rattle.model.specs.Tree.{link};
@@ -155,11 +156,32 @@ pub fn trailer_word(kind: Kind, blocks: u64, j: u64) -> u64
     }
 }
 
-// Whether words `from` to `to` - 1 of the block that begins at an index are 0; those off the board are.
+// How many of words `from` to `to` - 1 of the block that begins at an index are not 0. It does not end at the first, so that several are looked at at once.
+fn nonzero(board: &[u64], at: u64, from: u64, to: u64) -> u64
+    requires { ⌜ at + to ≤ length (now board) ⌝ }
+    ensures { λ r. ⌜ eqb r 0 ≡ zerosIn (now (board .entry)) at from (to - from) ⌝ }
+{
+    let mut count = 0;
+    let mut j = from;
+    while j < to {
+        if board[(at + j) as usize] != 0 {
+            count += 1;
+        }
+        j += 1;
+    }
+    count
+}
+
+// Whether none of them is; those off the board are 0.
 fn zeros(board: &[u64], at: u64, from: u64, to: u64) -> bool
     requires { ⌜ at + to ≤ 2 ^ 64 ⌝ }
     ensures { λ r. ⌜ r ≡ zerosIn (now (board .entry)) at from (to - from) ⌝ }
 {
+    if from < to {
+        if at + (to - 1) < board.len() as u64 {
+            return nonzero(board, at, from, to) == 0;
+        }
+    }
     let mut j = from;
     while j < to {
         if word(board, at + j) != 0 {
