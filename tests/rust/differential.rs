@@ -14,6 +14,7 @@ use probes::PUBLISHED;
 use std::io::Write;
 use std::process::{Command, Stdio};
 use support::boards::{image_of, room, FILES};
+use support::kinds::Kinds;
 use support::layout::Layout;
 use support::library::{Library, HOUSE};
 use support::random::Random;
@@ -70,6 +71,8 @@ struct Test {
     calls: Calls,
     ways: Ways,
     damages: Damages,
+    /// The accepted boards of rounds, by how many blocks they have.
+    counts: Kinds,
     pool: Vec<u8>,
 }
 
@@ -396,11 +399,24 @@ impl Test {
         }
     }
 
+    fn count_blocks(&mut self, board: &[u64]) {
+        let (layout, blocks) = (self.layout, self.layout.blocks(board));
+        self.counts.count([
+            ("of the fewest blocks", blocks == layout.fewest),
+            ("of one block more", blocks == layout.fewest + 1),
+            ("of the most blocks", blocks == layout.most),
+        ]);
+    }
+
     fn round(&mut self) {
         let mut board = some_board(self.layout, &mut self.random);
         let few = [self.random.below(FILES), self.random.below(FILES), self.random.below(FILES)];
         // Every call on a refused board has the same answer, so a few are enough.
-        let most = if self.accepted(&board) { 40 } else { 3 };
+        let mut most = 3;
+        if self.accepted(&board) {
+            most = 40;
+            self.count_blocks(&board);
+        }
         for _ in 0..2 + self.random.below(most) {
             self.one_call(&mut board, &few);
         }
@@ -437,7 +453,8 @@ impl Test {
         let mut random = Random::new(seed, u64::MAX);
         let pool = random.bytes(layout.greatest() as usize + 7232);
         let calls = Calls::of(library, trial.document, trial.on_images);
-        Test { random, trial, library, layout, calls, ways: Ways::of(library), damages: Damages::default(), pool }
+        let (ways, damages, counts) = (Ways::of(library), Damages::default(), Kinds::default());
+        Test { random, trial, library, layout, calls, ways, damages, counts, pool }
     }
 
     fn rounds(&mut self, words: &Words, walks: &mut Walks) {
@@ -470,11 +487,13 @@ fn main() {
     test.calls.report();
     test.ways.report();
     test.damages.report();
+    test.counts.report("accepted boards");
     if words.wanted >= trial.enough {
         test.calls.all_met();
         test.ways.all_met();
         test.ways.empty_met();
         test.damages.all_met();
+        test.counts.all_met("accepted boards");
     }
     if !words.published {
         bands_are_spans();

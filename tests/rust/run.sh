@@ -21,6 +21,7 @@ rustc "${flags[@]}" --crate-type rlib --crate-name fast docs/src/fast/lib.rs
 rustc "${flags[@]}" --extern support --extern probes --extern fast tests/rust/same_plans.rs
 # Not run here, but by bench/run.
 rustc "${flags[@]}" --extern support --extern fast bench/planning.rs
+rustc "${flags[@]}" --extern support --extern probes --extern fast bench/published.rs
 
 target/rust/differential "$seed" "$calls"
 target/rust/differential published "$seed" "$((calls / 10))"

@@ -1,4 +1,5 @@
-// A board of some kind: where its words stand, a file's inode among them, and whether its word count, its trailer and its spare inode pointers are as they must be.
+// A board of some kind: where its words stand, a file's inode among them, and whether its word count, its trailer and its spare inode pointers are as they
+// must be.
 use kinds::bits;
 use kinds::block_in;
 use kinds::inode_in;

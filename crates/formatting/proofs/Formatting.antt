@@ -2,9 +2,9 @@
 use mathlib.Core.Path.{_≡_, refl, sym, ap, _∙_}
 use mathlib.Core.Bool.{Bool, true, false}
 use mathlib.Core.List.{List, [], _∷_, _++_}
-use Prim.Native.Nat.{ℕ, suc, _+_, _-_, _*_, _/_, _^_, _≤_, _<_}
+use Prim.Native.Nat.{ℕ, suc, _+_, _-_, _*_, _^_, _≤_, _<_}
 use native.Mathlib.Omega.{arith}
-use native.Mathlib.Nat.{mul-one, mul-add, mul-le-mul, mul-le-mul-left, mul-le-mul-right}
+use native.Mathlib.Nat.{mul-one, mul-add, mul-le-mul, mul-le-mul-right}
 use native.Mathlib.Numerals.{add-one}
 use lib.ListN.{length, replicate, length-replicate, replicate-append-replicate}
 use borrow.Author.Tests.{le-ltb, lt-ltb}
@@ -23,7 +23,7 @@ use Rattle.model.specs.Calls.{wordCountFault, format}
 use Rattle.model.proofs.Perform.{length-tabulate, pageStore, length-stored}
 use Rattle.model.proofs.Formatted.{clears, commits, trailerStore, pages, filling, length-pages, format-epochs, format-pairs}
 use Rattle.model.proofs.Formatted.{fits}
-use Rattle.kinds.proofs.Figures.{few-words, block-room}
+use Rattle.kinds.proofs.Figures.{few-words}
 use Rattle.plans.specs.Laying.{blockStores, Laid, PlanResult}
 use Rattle.plans.proofs.Laying as Laying
 use Rattle.plans.proofs.Onto.{stored-append, stored-one}

@@ -1,4 +1,4 @@
-// Format: plans 32 empty files on a board of some kind. It stores nothing itself.
+// Format: plans 32 empty files on a board of some kind. It stores nothing itself. `published_format` is of boards with the published block.
 use boards::block_count;
 use boards::last;
 use boards::trailer_word;

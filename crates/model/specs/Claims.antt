@@ -1,4 +1,4 @@
--- What document 01, and N1 and N3 of document 02, promise of these definitions, as statements. All are proved; README says where.
+-- What document 01, and N1, N3 and N11 of document 02, promise of these definitions, as statements. All are proved; README says where.
 use mathlib.Core.Path.{_≡_}
 use mathlib.Core.Logic.{_≢_, _⊎_, _↔_}
 use mathlib.Core.Bool.{Bool, false, _&&_}

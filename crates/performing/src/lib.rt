@@ -1,4 +1,4 @@
-// The call that stores: perform.
+// The calls that store: perform, on each kind of board.
 use boards::word_count_sound;
 use model::Answer;
 use model::Fault;

@@ -1,5 +1,5 @@
--- What a caller has who knows the contracts alone, of each kind of board. `r` is what the call answered and `slice′` the plan slice as it left it; both stand in the contract of
--- the call, PlanResult, and what perform does with them in PerformResult.
+-- What a caller has who knows the contracts alone, of each kind of board. `r` is what the call answered and `slice′` the plan slice as it left it; both
+-- stand in the contract of the call, PlanResult, and what perform does with them in PerformResult.
 use mathlib.Core.Path.{_≡_}
 use mathlib.Core.Logic.{_⊎_}
 use mathlib.Core.Bool.{Bool, true, false, cond}

@@ -8,7 +8,7 @@ use native.Mathlib.Omega.{arith}
 use native.Mathlib.Nat.{zero-add, add-zero, pow-succ', pow-le-pow-right}
 use lib.ListN.{length, getD, take, drop, length-drop, drop-of-length-le}
 use lib.Seq.{take-all, take-nil}
-use lib.Dec.{T, leb, leb→le}
+use lib.Dec.{leb, leb→le}
 use Rattle.model.specs.Words.{byteOf, wordOf}
 use Rattle.model.specs.Tree.{link}
 use Rattle.model.specs.Fresh.{part, dataPage}
