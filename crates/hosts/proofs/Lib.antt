@@ -1,2 +1,2 @@
--- What the proofs of several functions use: answers as C gets them, and how great they are.
+-- What the proof of the walk uses: its end as C gets it.
 pub mod Ends

@@ -20,7 +20,7 @@ pub record Layout : Type 0 where
 abbrev pub house : Layout
 house = record { words = 8; height = 3; leaves = 8; inodes = 4; mark = 1; most = 1024 }
 
--- N11: a board with the published block. *16 to 512 blocks of 512 words*; *heights are 0 and 1*; *files number 32 in one leaf*; *trailer word 3 is 3*
+-- N11: a board with the published block. *16 to 512 blocks of 512 words*; *heights are 0 and 1*; *files number 32 in one leaf*; of the trailer *word 3 is 3*
 abbrev pub published : Layout
 published = record { words = 512; height = 1; leaves = 1; inodes = 32; mark = 3; most = 512 }
 
