@@ -1,5 +1,5 @@
-"""A model of the cabinet memory board in Python, from document 01 and N1, N3, N4 and N11 of document 02 (docs/DECISIONS.md says how
-far apart from the definitions).
+"""A model of the cabinet memory board in Python, from document 01 and N1, N3, N4, N11 and N12 of document 02 (docs/DECISIONS.md says
+how far apart from the definitions).
 
 It surveys a board into dictionaries and plans with explicit loops, where the definitions in crates/model recurse, so that an error is
 not likely to be made twice. Answers are numbers, a refusal r is -r. vectors.py holds the definitions against it.
@@ -552,3 +552,29 @@ def perform(board, plan, pairs, layout=HOUSE):
     except Refused as refused:
         return -refused.number, list(board)
     return pairs, out
+
+
+# ---- Counting a write's stores (N12)
+
+
+def store_count(pairs):
+    """How many stores are among the pairs, "barriers not counted"."""
+    return sum(address != BARRIER for address, _ in pairs)
+
+
+def most_blocks(length):
+    """The most blocks, t + u + v + 5, for "a base-layout write of L bytes, L at least 1 and the offset not past the size"."""
+    t = (length + 62) // 64 + 1
+    u = (t + 6) // 8 + 1
+    v = (u + 6) // 8 + 1
+    return t + u + v + 5
+
+
+def most_stores(length):
+    """The figure on the data sheet: "its plan has at most" 8 * (t + u + v + 5) + 32 "stores, barriers not counted"."""
+    return 8 * most_blocks(length) + 32
+
+
+def sharp_most_stores(length):
+    """A sharper figure than the request's: at most eight stores to each block, "the root word" of growth and "the commit"."""
+    return 8 * most_blocks(length) + 2

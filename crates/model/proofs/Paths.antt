@@ -1,5 +1,5 @@
 -- Which blocks of a tree are made fresh by a write, and how many they are.
-use mathlib.Core.Path.{_≡_, refl, sym, ap}
+use mathlib.Core.Path.{_≡_, refl, sym, ap, _∙_}
 use mathlib.Core.Logic.{_⊎_, inl, inr}
 use mathlib.Core.Bool.{true, false, cond, and-false, false≢true}
 use mathlib.Core.List.{List, []}
@@ -122,3 +122,13 @@ module _ (W : ℕ) where
   pub need-none : (h o : ℕ) → need W h o 0 ≡ 0
   unfolding need
   need-none h o = fresh-none [] h 0 0 o 0 (untouched-null h 0 0 o 0 refl refl)
+
+  -- else one for data, and for pointers one and those under the children
+  pub need-data : (o l : ℕ) → 0 < l → need W zero o l ≡ 1
+  unfolding need
+  need-data o l some = fresh-data [] 0 0 o l (touched-new zero 0 0 o l some)
+
+  pub need-node : (h o l : ℕ) → 0 < l → need W (suc h) o l ≡ suc (sum W (λ j. need W h (o - j * span W h) (partLength (span W h) j o l)))
+  unfolding need freshBefore
+  need-node h o l some = fresh-node [] h 0 0 o l (touched-new (suc h) 0 0 o l some)
+      ∙ ap suc (sum-cong W _ _ (λ j p. fresh-quiet [] h (link W [] 0 j / W) (0 - j * span W h) (o - j * span W h) (partLength (span W h) j o l) (inr (inl (omega arith)))))

@@ -233,7 +233,7 @@ doing-either g fresh b c faults slice good = elim (planned-either faults (pairs 
   | inr r ↦ inr r
 ]
 
-file-passed : (g : Layout) (b : List ℕ) (f : ℕ) → All Passed (fileFaults g b f) → f < files g
+pub file-passed : (g : Layout) (b : List ℕ) (f : ℕ) → All Passed (fileFaults g b f) → f < files g
 unfolding fileFaults All
 file-passed g b f h = leb-false (files g) f (all-right Passed (boardFaults g b) ((FileNumber, leb (files g) f) ∷ []) h .0)
 

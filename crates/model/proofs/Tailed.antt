@@ -60,7 +60,7 @@ unfolding tailNeed
 tailNeed-dead W zero l = refl
 tailNeed-dead W (suc h) l = refl
 
-part-nothing : (s j o l : ℕ) → l ≡ 0 → partLength s j o l ≡ 0
+pub part-nothing : (s j o l : ℕ) → l ≡ 0 → partLength s j o l ≡ 0
 unfolding partLength
 part-nothing s j o l e = omega arith
 

@@ -1,23 +1,25 @@
 -- What a caller has who knows the contracts alone, of each kind of board. `r` is what the call answered and `slice′` the plan slice as it left it; both
 -- stand in the contract of the call, PlanResult, and what perform does with them in PerformResult.
 use mathlib.Core.Path.{_≡_}
-use mathlib.Core.Logic.{_⊎_}
+use mathlib.Core.Logic.{_≢_, _⊎_}
 use mathlib.Core.Bool.{Bool, true, false, cond}
 use mathlib.Core.List.{List, [], _∷_}
-use Prim.Native.Nat.{ℕ, zero, suc, _≤_}
+use Prim.Native.Nat.{ℕ, zero, suc, _*_, _≤_}
+use lib.ListN.{length}
 use lib.Dec.{T}
 use Rattle.model.specs.declared.Answer.{Answer}
 use Rattle.model.specs.declared.Answer.the-variants.{Done, Refused}
-use Rattle.model.specs.declared.Fault.the-variants.{Trailer}
+use Rattle.model.specs.declared.Fault.the-variants.{Trailer, PlanLength}
 use Rattle.model.specs.Words.{Bytes}
 use Rattle.model.specs.declared.Kind.{Kind}
-use Rattle.model.specs.Layout.{Layout, layoutOf}
-use Rattle.model.specs.Board.{trailer, contents, accepted, wordCountSound}
+use Rattle.model.specs.Layout.{Layout, house, layoutOf}
+use Rattle.model.specs.Board.{trailer, size, contents, accepted, wordCountSound}
 use Rattle.model.specs.Store.{Store, isBarrier}
 use Rattle.model.specs.Answers.{counted}
 use Rattle.model.specs.Calls.{checkAnswer, write, setLength, format}
 use Rattle.model.specs.Cut.{writing, lengthTo, planOf, after, Cut, Names, standing, lastArrived}
 use Rattle.model.specs.Claims.{CutSafe, Altered, Empty}
+use Rattle.bounds.specs.Bounds.{mostStores, storeCount}
 use Rattle.plans.specs.Laying.{PlanResult}
 use Rattle.performing.specs.Results.{PerformResult}
 
@@ -71,3 +73,15 @@ pub record Formats (g : Layout) (b : List ℕ) (r : Answer) (slice′ : List ℕ
 abbrev pub FormatPromise : Type 0
 FormatPromise = (k : Kind) → let g : Layout = layoutOf k in (b : List ℕ) → T (wordCountSound g b) → (slice : List ℕ) (r : Answer) (slice′ : List ℕ)
     → PlanResult (format g b slice) r slice′ → Formats g b r slice′
+
+-- `write`, N12 of document 02: the plan that it left has at most so many stores
+abbrev pub StoresPromise : Type 0
+StoresPromise = (b : List ℕ) → T (accepted house b) → (f o : ℕ) (bytes : Bytes) (slice : List ℕ) (r : Answer) (slice′ : List ℕ) → PlanResult (write house b f o (bytes .values) slice) r slice′
+    → 1 ≤ length (bytes .values) → o ≤ size house b f → storeCount (planLeft r slice′) ≤ mostStores (length (bytes .values))
+
+-- with a plan slice of twice the board's words no call that plans was refused 8: write and length change, and format
+abbrev pub RoomPromise : Type 0
+RoomPromise = (k : Kind) → let g : Layout = layoutOf k in (b slice : List ℕ) → 2 * length b ≤ length slice → (r : Answer) (slice′ : List ℕ)
+    → ((f o : ℕ) (bytes : Bytes) → PlanResult (write g b f o (bytes .values) slice) r slice′ → r ≢ Refused PlanLength)
+    × ((f n : ℕ) → PlanResult (setLength g b f n slice) r slice′ → r ≢ Refused PlanLength)
+    × (PlanResult (format g b slice) r slice′ → r ≢ Refused PlanLength)

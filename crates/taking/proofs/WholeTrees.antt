@@ -1,6 +1,6 @@
 -- How many fresh blocks a tree takes that is written from its start, in closed form; the words of a data block that is written whole.
 use mathlib.Core.Path.{_≡_, refl, sym, ap, subst, _∙_}
-use mathlib.Core.Logic.{_≢_, inl, inr}
+use mathlib.Core.Logic.{_≢_}
 use mathlib.Core.Bool.{true, _&&_}
 use mathlib.Core.List.{List, []}
 use Prim.Native.Nat.{ℕ, zero, suc, _+_, _-_, _*_, _/_, _≤_, _<_, min}
@@ -17,7 +17,7 @@ use Rattle.model.specs.Fresh.{partLength, freshNeed, freshBefore, need, dataPag
 use Rattle.model.proofs.Cases.{and-left, and-right, tabulate-cong}
 use Rattle.model.proofs.Spans.{span-pos}
 use Rattle.model.proofs.Sums.{sum-cong, sum-split}
-use Rattle.model.proofs.Paths.{kidNeed, touched-new, fresh-data, fresh-node, fresh-quiet, need-none}
+use Rattle.model.proofs.Paths.{kidNeed, touched-new, fresh-data, fresh-node, need-none, need-node}
 use Rattle.taking.specs.Taking.{newStores, whole}
 use Rattle.taking.proofs.Splicing.{word-new, data-word}
 
@@ -65,9 +65,8 @@ module _ (W : ℕ) (pos : 0 < W) (h : ℕ) where
   kid l j = need W h 0 (partLength (span W h) j 0 l)
 
   need-kids : (l : ℕ) → 0 < l → need W (suc h) 0 l ≡ suc (sum W (kid l))
-  unfolding need kid freshBefore
-  need-kids l some = fresh-node W [] h 0 0 0 l (touched-new W (suc h) 0 0 0 l some)
-      ∙ ap suc (sum-cong W _ _ (λ j u. rw (zero-sub (j * span W h)) (fresh-quiet W [] h (link W [] 0 j / W) 0 0 _ (inr (inl refl)))))
+  unfolding kid
+  need-kids l some = need-node W h 0 l some ∙ ap suc (sum-cong W _ _ (λ j u. rw (zero-sub (j * span W h))))
 
   kid-whole : (l j : ℕ) → suc j * span W h ≤ l → kid l j ≡ whole W h
   unfolding kid need partLength

@@ -1,0 +1,143 @@
+-- The house's figures, and the claims: how many stores a write may cost.
+use mathlib.Core.Path.{_≡_, refl, ap}
+use mathlib.Core.Logic.{inl, inr}
+use mathlib.Core.List.{List, [], _∷_}
+use Prim.Native.Nat.{ℕ, zero, suc, _+_, _-_, _*_, _/_, _≤_, _<_}
+use native.Mathlib.Omega.{arith}
+use native.Mathlib.Nat.{mul-le-mul-left, div-mul-le-self, le-div-iff-mul-le, mul-pos}
+use lib.ListN.{length, length-append}
+use lib.Dec.{T}
+use Rattle.model.specs.Lists.{sum, filter, consIf, concat}
+use Rattle.model.specs.Words.{Bytes}
+use Rattle.model.specs.Layout.{files, house}
+use Rattle.model.specs.Tree.{span}
+use Rattle.model.specs.Board.{size, accepted}
+use Rattle.model.specs.Store.{Store, store, isBarrier, barrier, stores, fenced}
+use Rattle.model.specs.Plan.{Plan, pairs, planEpochs}
+use Rattle.model.specs.Fresh.{need}
+use Rattle.model.specs.Change.{writePlan}
+use Rattle.model.specs.Calls.{lowest, writeFaults, writeFrom, write}
+use Rattle.model.proofs.Cases.{either}
+use Rattle.model.proofs.Perform.{stores-append}
+use Rattle.model.proofs.Accepting.{facts}
+use Rattle.model.proofs.Epochs.{planned-either}
+use Rattle.model.proofs.Rules.{write-passed}
+use Rattle.model.proofs.Formatted.{house-fits}
+use Rattle.bounds.specs.Bounds.{t, u, v, mostBlocks, mostStores, fewerStores, storeCount}
+use Rattle.bounds.specs.Claims.{StoresRule, CostRule}
+use Rattle.bounds.proofs.Stretches.{met, under-top, need-under, under-met}
+use Rattle.bounds.proofs.Stores.{cost}
+use Rattle.bounds.proofs.Sharp.{write-light}
+
+-- ---- The house's figures
+
+-- the stretches of w × s bytes, by those of s
+met-over : (w s l : ℕ) → 2 ≤ w → 2 ≤ s → met (w * s) l ≤ met w (met s l)
+unfolding met
+met-over w s l wide long = by ((l + (w * s - 2)) / (w * s)) (div-mul-le-self (l + (w * s - 2)) (w * s))
+  where
+    by : (x : ℕ) → x * (w * s) ≤ l + (w * s - 2) → x + 1 ≤ ((l + (s - 2)) / s + 1 + (w - 2)) / w + 1
+    by zero h = omega arith
+    by (suc y) h =
+        let pw : 0 < w = omega arith in
+        let ps : 0 < s = omega arith in
+        let some : 0 < w * s = mul-pos pw ps in
+        let many : 2 ≤ w * s = omega (arith, mul-le-mul-left w long) in
+        let each : (y * w + 1) * s ≤ l + (s - 2) = omega arith in
+        let below : y * w + 1 ≤ (l + (s - 2)) / s = le-div-iff-mul-le ps .1 each in
+        let over : suc y ≤ ((l + (s - 2)) / s + 1 + (w - 2)) / w = le-div-iff-mul-le pw .1 (omega arith) in
+        omega arith
+
+met-t : (l : ℕ) → met 64 l ≡ t l
+unfolding met t
+met-t l = refl
+
+met-u : (l : ℕ) → met 512 l ≤ u l
+unfolding u met
+met-u l = over (met-over 8 64 l (omega arith) (omega arith))
+  where
+    over : met (8 * 64) l ≤ met 8 (met 64 l) → met 512 l ≤ (t l + 6) / 8 + 1
+    over h = rw met-t at h
+
+met-mono : (s k l : ℕ) → 0 < s → k ≤ l → met s k ≤ met s l
+unfolding met
+met-mono s k l pos le =
+    let over : (k + (s - 2)) / s ≤ (l + (s - 2)) / s = le-div-iff-mul-le pos .1 (omega (arith, div-mul-le-self (k + (s - 2)) s)) in
+    omega arith
+
+met-v : (l : ℕ) → met 4096 l ≤ v l
+unfolding v met
+met-v l = over (met-over 8 512 l (omega arith) (omega arith)) (met-mono 8 (met 512 l) (u l) (omega arith) (met-u l))
+  where
+    over : met (8 * 512) l ≤ met 8 (met 512 l) → met 8 (met 512 l) ≤ met 8 (u l) → met 4096 l ≤ (u l + 6) / 8 + 1
+    over h k = omega arith
+
+-- what written bytes take in a tree of height 3 at most
+pub house-need : (h o l : ℕ) → 0 < l → h ≤ 3 → need 8 h o l ≤ t l + u l + v l + 1
+unfolding sum span
+house-need h o l some low = by h low
+  where
+    pos : 0 < 8
+    pos = omega arith
+
+    by : (h : ℕ) → h ≤ 3 → need 8 h o l ≤ t l + u l + v l + 1
+    by zero le = omega (arith, need-under 8 0 o l, under-top 8 0 o l)
+    by (suc zero) le = omega (arith, need-under 8 1 o l, under-top 8 1 o l, under-met 8 pos 0 1 1 refl o l some, met-t l)
+    by (suc (suc zero)) le = omega (arith, need-under 8 2 o l, under-top 8 2 o l, under-met 8 pos 0 2 2 refl o l some, under-met 8 pos 1 1 2 refl o l some, met-t l, met-u l)
+    by (suc (suc (suc zero))) le = omega (arith, need-under 8 3 o l, under-top 8 3 o l, under-met 8 pos 0 3 3 refl o l some, under-met 8 pos 1 2 3 refl o l some, under-met 8 pos 2 1 3 refl o l some, met-t l, met-u l, met-v l)
+    by (suc (suc (suc (suc h)))) le = absurd (omega arith)
+
+-- ---- How many stores a write may cost
+
+-- barriers are no stores
+length-stores : (ss : List Store) → length (stores ss) ≤ length ss
+unfolding stores filter consIf
+length-stores [] = omega arith
+length-stores (s ∷ ss) = elim (either (isBarrier s)) [ inl e ↦ rw e (omega (arith, length-stores ss)) | inr e ↦ rw e (omega (arith, length-stores ss)) ]
+
+barrier-none : (ss : List Store) → length (stores (barrier ∷ ss)) ≡ length (stores ss)
+unfolding stores filter consIf isBarrier barrier store
+barrier-none ss = refl
+
+-- so the pairs of epochs have no more stores than these
+fenced-stores : (es : List (List Store)) → length (stores (fenced es)) ≤ length (concat es)
+unfolding fenced concat
+fenced-stores [] = length-stores []
+fenced-stores (e ∷ []) = omega (arith, length-stores e, length-append e [])
+fenced-stores (e ∷ d ∷ es) = omega (
+  arith,
+  ap length (stores-append e (barrier ∷ fenced (d ∷ es))),
+  length-append (stores e) (stores (barrier ∷ fenced (d ∷ es))),
+  length-stores e,
+  barrier-none (fenced (d ∷ es)),
+  fenced-stores (d ∷ es),
+  length-append e (concat (d ∷ es)),
+)
+
+module _ (b : List ℕ) (ok : T (accepted house b)) (fresh : ℕ → ℕ) (f o : ℕ) (new : Bytes) (some : 1 ≤ length (new .values)) (within : o ≤ size house b f) where
+  abbrev p : Plan
+  p = writePlan house fresh b f o (new .values)
+
+  abbrev l : ℕ
+  l = length (new .values)
+
+  done-stores : f < files house → storeCount (pairs p) ≤ fewerStores l
+  unfolding storeCount pairs fewerStores mostBlocks cost
+  done-stores file =
+      let few : cost p ≤ 8 * (3 + (t l + u l + v l + 1 + 1)) + 2 =
+      write-light house house-fits fresh b f (facts house house-fits b ok .low f file) o within (new .values) (t l + u l + v l + 1) (λ h o′ low. house-need h o′ l some low) in
+      omega (arith, fenced-stores (planEpochs (p .steps)))
+
+pub cost-rule : CostRule
+unfolding writeFrom storeCount stores filter
+cost-rule b ok fresh f o new slice some within =
+    let p : Plan = writePlan house fresh b f o (new .values) in
+    elim (planned-either (writeFaults house b f o (new .values) p) (pairs p) slice) [
+      | inl d ↦ rw (d .plans) (done-stores b ok fresh f o new some within (write-passed house-fits ok f o new p (d .passed) .0 .on .file))
+      | inr r ↦ rw (r .plans) (omega arith)
+    ]
+
+-- 30 to spare
+pub stores-rule : StoresRule
+unfolding write mostStores fewerStores
+stores-rule b ok f o new slice some within = omega (arith, cost-rule b ok (lowest house b) f o new slice some within)

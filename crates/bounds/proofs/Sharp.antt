@@ -1,0 +1,195 @@
+-- A write whose offset is not past the size stores no more than W words for each block that fresh paths, a leaf and growth would take, and two commits: a
+-- tail stores at most W words in each block that it leaves in place.
+use mathlib.Core.Path.{_≡_, refl, sym, ap}
+use mathlib.Core.Logic.{_⊎_, inl, inr}
+use mathlib.Core.Bool.{Bool, true, false, cond}
+use mathlib.Core.List.{List, [], _∷_}
+use Prim.Native.Nat.{ℕ, zero, suc, _+_, _-_, _*_, _/_, _%_, _≤_, _<_}
+use native.Mathlib.Omega.{arith}
+use native.Mathlib.Nat.{mul-le-mul-left, mul-zero, mul-add}
+use lib.ListN.{length, length-append}
+use lib.Dec.{leb}
+use Rattle.model.specs.declared.Inode.{Inode}
+use Rattle.model.specs.declared.WalkEnd.{WalkEnd}
+use Rattle.model.specs.declared.WalkEnd.the-variants.{Block, Hole}
+use Rattle.model.specs.Lists.{sum, concat}
+use Rattle.model.specs.Layout.{Layout, Fits}
+use Rattle.model.specs.Tree.{span, least, cell}
+use Rattle.model.specs.Board.{size, inodeOf}
+use Rattle.model.specs.Store.{Store, performed}
+use Rattle.model.specs.Plan.{Step, step, stepEpochs, planEpochs, Plan, plan, afterwards}
+use Rattle.model.specs.Fresh.{part, partLength, need, stored, freshPointer}
+use Rattle.model.specs.InPlace.{tailNeed, tailBefore, tailPages, inPlace}
+use Rattle.model.specs.Change.{growth, grownInode, singleBlock, singleWord, isTail, emptyTail, tail, shadowInside, shadowWithLength, chosenWay, grownPlan, somePlan, writePlan}
+use Rattle.model.proofs.Cases.{split, length-joined}
+use Rattle.model.proofs.Sums.{sum-le, sum-add}
+use Rattle.model.proofs.Spans.{least-within}
+use Rattle.model.proofs.Paths.{need-data, need-node}
+use Rattle.model.proofs.Perform.{length-stored}
+use Rattle.model.proofs.Splice.{length-part}
+use Rattle.model.proofs.Shown.{words-pos}
+use Rattle.model.proofs.Tailed.{tailNeed-dead, length-tail}
+use Rattle.model.proofs.WayNeeds.{empty-tail-needs}
+use Rattle.bounds.proofs.Stores.{ones, words-most, in-place-none, in-place-dead, Costs, single-costs, empty-costs, inside-costs, leaf-costs, Low, cost, steps-cost, growth-either, grown-low}
+use Rattle.bounds.proofs.Taken.{tail-most, not-tail, inside-takes, leaf-takes, growth-takes}
+
+sum-times : (w m : ℕ) (f : ℕ → ℕ) → sum m (λ j. w * f j) ≡ w * sum m f
+unfolding sum
+sum-times w zero f = sym (mul-zero w)
+sum-times w (suc m) f = omega (arith, sum-times w m f, mul-add w (sum m f) (f m))
+
+-- ---- A tail: in each block that stays at most W words are stored, which a fresh one would have too
+
+module _ (W : ℕ) (b : List ℕ) (hook : ℕ → ℕ → ℕ → ℕ) where
+  abbrev Pays : ℕ → ℕ → ℕ → List ℕ → ℕ → ℕ → Type 0
+  Pays h k n new c a = W * tailNeed W h n (length new) + length (inPlace W b hook h k n new c a) ≤ W * need W h n (length new)
+
+  pays-none : (h k n : ℕ) (new : List ℕ) (c a : ℕ) → length new ≡ 0 → Pays h k n new c a
+  pays-none h k n new c a e = omega (arith, in-place-none W b hook h k n new c a e, mul-le-mul-left W (tail-most W h n (length new)))
+
+  -- a child
+  pays-child : (h k n : ℕ) (new : List ℕ) (c a : ℕ) → (0 < n → Pays h k n new c a) → W * tailNeed W h n (length new) + length (inPlace W b hook h k n new c a) ≤ W * need W h n (length new) + 1
+  pays-child h k n new c a ih = elim (split n 0) [
+    | inl z ↦
+        let e : n ≡ 0 = omega arith in
+        let same : tailNeed W h n (length new) ≡ need W h n (length new) = rw e (tailNeed-dead W h (length new)) in
+        rw same (omega (arith, in-place-dead W b hook h k n new c a e))
+    | inr live ↦ omega (arith, ih live)
+  ]
+
+  module _ (h k n : ℕ) (new : List ℕ) (c : ℕ) where
+    abbrev kid : ℕ → List Store
+    kid j = inPlace W b hook h (cell W b (suc k) j / W) (suc n - j * span W h) (part (span W h) j (suc n) new) (c + tailBefore W h (suc n) (length new) j) (W * suc k + j)
+
+    abbrev kidTail : ℕ → ℕ
+    kidTail j = tailNeed W h (suc n - j * span W h) (partLength (span W h) j (suc n) (length new))
+
+    abbrev kidFresh : ℕ → ℕ
+    kidFresh j = need W h (suc n - j * span W h) (partLength (span W h) j (suc n) (length new))
+
+    pays-node : ((j : ℕ) → W * kidTail j + length (kid j) ≤ W * kidFresh j + 1) → W * sum W kidTail + sum W (λ j. length (kid j)) ≤ W * sum W kidFresh + W
+    pays-node each = omega (
+      arith,
+      sum-le W (λ j. W * kidTail j + length (kid j)) (λ j. W * kidFresh j + 1) (λ j p. each j),
+      sum-add W (λ j. W * kidTail j) (λ j. length (kid j)),
+      sum-add W (λ j. W * kidFresh j) (λ j. 1),
+      sum-times W W kidTail,
+      sum-times W W kidFresh,
+      ones W,
+    )
+
+  tail-pays : (h k n : ℕ) (new : List ℕ) (c a : ℕ) → 0 < n → Pays h k n new c a
+  unfolding inPlace tailNeed
+  tail-pays zero k zero new c a live = absurd (omega arith)
+  tail-pays zero zero (suc n) new c a live = omega (arith, mul-zero W)
+  tail-pays zero (suc k) (suc n) new c a live = elim (split (length new) 0) [
+    | inl z ↦ pays-none zero (suc k) (suc n) new c a (omega arith)
+    | inr some ↦ rw (need-data W (suc n) (length new) some) (omega (arith, words-most W b hook (suc k) (suc n) new, mul-zero W))
+  ]
+  tail-pays (suc h) k zero new c a live = absurd (omega arith)
+  tail-pays (suc h) zero (suc n) new c a live = omega (arith, mul-le-mul-left W (tail-most W (suc h) (suc n) (length new)))
+  tail-pays (suc h) (suc k) (suc n) new c a live = elim (split (length new) 0) [
+    | inl z ↦ pays-none (suc h) (suc k) (suc n) new c a (omega arith)
+    | inr some ↦ rw (need-node W h (suc n) (length new) some) (omega (
+      arith,
+      length-joined W (kid h k n new c),
+      pays-node h k n new c (λ j. rw (length-part (span W h) j (suc n) new) at (pays-child h (cell W b (suc k) j / W) (suc n - j * span W h) (part (span W h) j (suc n) new) (c + tailBefore W h (suc n) (length new) j) (W * suc k + j)
+          (tail-pays h (cell W b (suc k) j / W) (suc n - j * span W h) (part (span W h) j (suc n) new) (c + tailBefore W h (suc n) (length new) j) (W * suc k + j)))),
+    ))
+  ]
+
+-- ---- The ways
+
+-- p is one step, with y hidden stores at most
+record Light (y : ℕ) (p : Plan) : Type 0 where
+  only : Step
+  is : p .steps ≡ only ∷ []
+  hides : length (only .hidden) ≤ y
+
+-- W words for each of y blocks
+costs-light : (W k x y : ℕ) (p : Plan) → Costs W k x p → W * p .taken + x ≤ W * (k + y) → Light (W * y) p
+costs-light W k x y p c le = record { only = c .only; is = c .is; hides = omega (arith, c .hides) }
+
+module _ (g : Layout) (pos : 0 < g .words) (fresh : ℕ → ℕ) (new : List ℕ) (X : ℕ) (most : (h o : ℕ) → h ≤ g .height → need (g .words) h o (length new) ≤ X)
+    (b : List ℕ) (n : Inode) (low : Low g n) (o : ℕ) (within : o ≤ n .size) (k : ℕ) where
+  abbrev Fair : Plan → Type 0
+  Fair = Light (g .words * (X + 1))
+
+  tail-light : (s : ℕ) → s ≡ n .size → Fair (tail g fresh b n s o new k)
+  unfolding tail plan step
+  tail-light zero e = costs-light (g .words) k 1 (X + 1) _ (empty-costs g fresh b n o new k 1 (omega arith)) (
+      let few : emptyTail g fresh b n o new k .taken ≤ k + X = omega (
+        arith,
+        empty-tail-needs g pos fresh b n new k o,
+        most (least (g .words) (g .height) (o + length new)) o (least-within (g .words) pos (g .height) (o + length new)),
+      ) in
+      omega (arith, mul-le-mul-left (g .words) few)
+      )
+  tail-light (suc s) e =
+      let h : ℕ = n .root % g .words in
+      let K : ℕ = n .root / g .words in
+      let hook : ℕ → ℕ → ℕ → ℕ = λ h l i. freshPointer (g .words) fresh h 0 l i in
+      let ss : List Store = stored (g .words) fresh (tailPages (g .words) b fresh h K (suc s) new k) k in
+      let others : List Store = inPlace (g .words) b hook h K (suc s) new k (n .at) in
+      record {
+        only = _;
+        is = refl;
+        hides = omega (
+          arith,
+          length-append ss others,
+          length-stored (g .words) fresh (tailPages (g .words) b fresh h K (suc s) new k) k,
+          ap (λ (x : ℕ). g .words * x) (length-tail (g .words) pos b fresh h K (suc s) new k),
+          tail-pays (g .words) b hook h K (suc s) new k (n .at) (omega arith),
+          mul-le-mul-left (g .words) (most h (suc s) (low (omega arith))),
+        );
+      }
+
+  way-light : Fair (chosenWay g fresh b n o new k)
+  unfolding chosenWay
+  way-light = by (isTail g b n o) refl (leb (o + length new) (n .size))
+    where
+      by : (t : Bool) → isTail g b n o ≡ t → (u : Bool) → Fair (cond t (tail g fresh b n (n .size) o new k) (cond u (shadowInside g fresh b n o new k) (shadowWithLength g fresh b n o new k)))
+      by true e u = tail-light (n .size) refl
+      by false e true = costs-light (g .words) k 0 (X + 1) _ (inside-costs g fresh b n o new k 0)
+          (omega (arith, mul-le-mul-left (g .words) (inside-takes g pos fresh new X most b n low o within k (not-tail g b n o e))))
+      by false e false = costs-light (g .words) k 0 (X + 1) _ (leaf-costs g fresh b n o new k 0)
+          (omega (arith, mul-le-mul-left (g .words) (leaf-takes g pos fresh new X most b n low o within k (not-tail g b n o e))))
+
+-- ---- The write
+
+after-light : (W m y : ℕ) (p q : Plan) → (p ≡ plan [] 0) ⊎ Costs W 0 0 p → p .taken ≤ m → Light (W * y) q → cost (afterwards p q) ≤ W * (m + y) + 2
+unfolding afterwards plan cost planEpochs concat
+after-light W m y p q (inl e) few l = rw (e, l .is) (omega (arith, steps-cost (l .only) [], l .hides))
+after-light W m y p q (inr j) few l = rw (j .is, l .is) (omega (
+  arith,
+  steps-cost (j .only) (l .only ∷ []),
+  steps-cost (l .only) [],
+  j .hides,
+  l .hides,
+  mul-le-mul-left W few,
+))
+
+single-cost : (g : Layout) (b : List ℕ) (k o : ℕ) (new : List ℕ) → cost (singleWord g b k o new) ≡ 1
+unfolding singleWord plan step cost planEpochs stepEpochs concat
+single-cost g b k o new = refl
+
+module _ (g : Layout) (fit : Fits g) (fresh : ℕ → ℕ) (b : List ℕ) (f : ℕ) (low : Low g (inodeOf g b f)) (o : ℕ) (within : o ≤ size g b f) (new : List ℕ) (X : ℕ)
+    (most : (h o : ℕ) → h ≤ g .height → need (g .words) h o (length new) ≤ X) where
+  abbrev Few : Plan → Type 0
+  Few p = cost p ≤ g .words * (g .height + (X + 1)) + 2
+
+  some-light : (end : WalkEnd) → Few (somePlan g fresh b f end o new)
+  unfolding somePlan grownPlan grownInode
+  some-light (Block k) = omega (arith, single-cost g b k o new)
+  some-light Hole =
+      let n : Inode = inodeOf g b f in
+      let e : ℕ = o + length new in
+      let p : Plan = growth g fresh n e in
+      after-light (g .words) (g .height) (X + 1) p _ (growth-either g fit fresh n e) (growth-takes g (words-pos g fit) fresh n e)
+      (way-light g (words-pos g fit) fresh new X most (performed b (concat (planEpochs (p .steps)))) (grownInode g fresh n e) (grown-low g fit fresh n e low) o within (p .taken))
+
+pub write-light : (g : Layout) → Fits g → (fresh : ℕ → ℕ) (b : List ℕ) (f : ℕ) → Low g (inodeOf g b f) → (o : ℕ) → o ≤ size g b f → (new : List ℕ) (X : ℕ)
+    → ((h o : ℕ) → h ≤ g .height → need (g .words) h o (length new) ≤ X) → cost (writePlan g fresh b f o new) ≤ g .words * (g .height + (X + 1)) + 2
+unfolding writePlan plan cost planEpochs concat
+write-light g fit fresh b f low o within [] X most = omega arith
+write-light g fit fresh b f low o within (x ∷ new) X most = some-light g fit fresh b f low o within (x ∷ new) X most (singleBlock g b f o (o + suc (length new)))
