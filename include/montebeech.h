@@ -36,6 +36,8 @@ extern "C" {
 #define MONTEBEECH_WORDS_STACK_BYTES 65536 /* for one call on words */
 #define MONTEBEECH_BARRIER UINT64_MAX  /* the address of a pair that is a barrier */
 #define MONTEBEECH_FORMAT_WORDS 166    /* of a plan of format */
+/* Words of a plan that are enough for every plan of a board of board_len words: with so many no call refuses 8. */
+#define MONTEBEECH_PLAN_WORDS(board_len) (2 * (size_t)(board_len))
 
 enum montebeech_refusal {
     MONTEBEECH_WORD_COUNT = 1,  /* an image's bytes or a board's words are too few, too many or no whole blocks */
@@ -45,7 +47,7 @@ enum montebeech_refusal {
     MONTEBEECH_OFFSET = 5,      /* no call answers it any more: an offset may lie past the size */
     MONTEBEECH_END = 6,         /* the write, or the length, ends above 32,768 */
     MONTEBEECH_FREE_BLOCKS = 7, /* fewer blocks are free than the plan takes */
-    MONTEBEECH_PLAN_LENGTH = 8, /* plan_len is below two words for each pair */
+    MONTEBEECH_PLAN_LENGTH = 8, /* plan_len is below two words for each pair; MONTEBEECH_PLAN_WORDS never is */
     MONTEBEECH_PAIR_COUNT = 9,  /* pairs is above half of plan_len */
     MONTEBEECH_ADDRESS = 10     /* an address is neither on the board nor MONTEBEECH_BARRIER */
 };
@@ -95,13 +97,16 @@ int64_t montebeech_words_walk(const uint64_t *board, size_t board_len, uint64_t 
  * value to store there, or MONTEBEECH_BARRIER and 0: a barrier, before which all stores must have arrived. The cabinet
  * performs the pairs in order, with a barrier of its own after the last store, before another plan is made. If the power
  * fails on the way, each file reads wholly as before or wholly as after. A plan holds for the board that it was made
- * from, and for no other.
+ * from, and for no other. No plan has more pairs than the board has words, so a plan slice of
+ * MONTEBEECH_PLAN_WORDS(board_len) words is never refused 8.
  */
 
 /*
  * Plans a write of bytes_len bytes at offset of a file. The offset may lie past the file's size: the bytes between then
  * read 0, and the call is one change as any other. With bytes_len 0 the plan is empty and the file stays as it is,
- * wherever the offset lies up to 32,768; above it the call is refused 6. Refuses 1, 2, 3, 4, 6, 7, 8.
+ * wherever the offset lies up to 32,768; above it the call is refused 6. Where the offset does not lie past the size, the
+ * plan has at most 66 stores for 1 byte, 90 for 24, 650 for 4,096: docs/DATASHEET.md has the figure for any count. Refuses
+ * 1, 2, 3, 4, 6, 7, 8.
  */
 int64_t montebeech_words_write(const uint64_t *board, size_t board_len, uint64_t file, uint64_t offset,
                                const uint8_t *bytes, size_t bytes_len, uint64_t *plan, size_t plan_len);

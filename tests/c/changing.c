@@ -1,6 +1,7 @@
 /*
- * Tests of the calls on words as C makes them: the order of refusals where several apply, that a refusal changes nothing, plans at the
- * wall of their memory, walks at it on any words, a write past the end that is cut, and the stack. What plans hold is tested by words.py.
+ * Tests of the calls on words as C makes them: the order of refusals where several apply, that a refusal changes nothing, slices that
+ * are long enough for every plan, plans at the wall of their memory, walks at it on any words, a write past the end that is cut, and the
+ * stack. What plans hold is tested by words.py.
  */
 #include "testing.h"
 
@@ -9,7 +10,7 @@
 
 #include <inttypes.h>
 
-enum { MOST_WORDS = 8192, MOST_PLAN = 12000, GREATEST = MONTEBEECH_GREATEST_SIZE };
+enum { MOST_WORDS = 8192, MOST_PLAN = MONTEBEECH_PLAN_WORDS(MOST_WORDS), GREATEST = MONTEBEECH_GREATEST_SIZE };
 
 #define LAST UINT64_MAX
 #define BIT_63 ((uint64_t)1 << 63)
@@ -174,6 +175,44 @@ static void perform_refuses(void)
     }
     answers("perform", montebeech_words_perform(board, board_len, plan, 22, 11), 11);
     answers("size", montebeech_words_size(board, board_len, 0), 2);
+}
+
+/* ---- Plan slices: so many words as the header gives are enough for every call, on whatever words. */
+
+static void is_not_8(const char *call, int64_t found)
+{
+    if (fails(found != -MONTEBEECH_PLAN_LENGTH))
+        printf("%s: refused 8 with %zu words of plan for a board of %zu\n", call, MONTEBEECH_PLAN_WORDS(board_len), board_len);
+}
+
+/* Writes of every length from the end of file 0 on, those that take all free blocks among them; lengths; format. */
+static void calls_have_room(void)
+{
+    size_t lent = MONTEBEECH_PLAN_WORDS(board_len);
+    int64_t size = montebeech_words_size(board, board_len, 0);
+    uint64_t offset = size < 0 ? 0 : (uint64_t)size;
+    for (size_t len = 0; len <= GREATEST; len += 1 + len / 16) {
+        is_not_8("write", montebeech_words_write(board, board_len, 0, offset, bytes, len, plan, lent));
+        is_not_8("write inside", montebeech_words_write(board, board_len, 0, offset / 2, bytes, len, plan, lent));
+        is_not_8("write past the end", montebeech_words_write(board, board_len, 0, offset + 65, bytes, len, plan, lent));
+        is_not_8("length change", montebeech_words_set_length(board, board_len, 0, len, plan, lent));
+    }
+    is_not_8("format", montebeech_words_format(board, board_len, plan, lent));
+}
+
+static void plan_words_suffice(void)
+{
+    about("words of a plan");
+    for (size_t blocks = 16; blocks <= 1024; blocks *= 2) {
+        format(blocks);
+        calls_have_room();
+        write_bytes(0, 0, 64 * (blocks / 8));
+        calls_have_room();
+        board_len -= 8; /* no trailer */
+        calls_have_room();
+        board_len = 3;
+        calls_have_room();
+    }
 }
 
 /* ---- Memory: each slice ends at a wall, and the plan slice is as long as it must be. */
@@ -356,6 +395,7 @@ int main(void)
     no_memory();
     order_of_refusals();
     perform_refuses();
+    plan_words_suffice();
     at_the_wall();
     coin_log();
     printf("changing: %lu tests, %lu failed\n", tests, failed);

@@ -1,5 +1,6 @@
 #!/usr/bin/env python3
-"""Holds the definitions of crates/model and crates/bands against board.py, a second model of document 01 and N1, N3, N4 and N11 of document 02.
+"""Holds the definitions of crates/model, crates/bands and crates/bounds against board.py, a second model of document 01 and N1, N3, N4, N11 and N12 of
+document 02.
 
 Makes boards with rubbish wherever the document allows it, has board.py say what calls on them answer and leave, and has the prover
 compute the same from the definitions. Among the calls is one for each way of planning that is met. The numbers are drawn from a seed.
@@ -55,6 +56,8 @@ use Rattle.model.proofs.Computing.{computes}
 use Rattle.examples.specs.Examples.{sameList, sameAnswer}
 use Rattle.bands.specs.Sheet.{row, sheet, lies, heightIn, sheetHeight}
 use Rattle.bands.specs.Planned.{wayBy, growthBy, grownInodeBy, somePlanBy, writePlanBy}
+use Rattle.model.specs.Cut.{planOf}
+use Rattle.bounds.specs.Bounds.{t, u, v, mostBlocks, mostStores, fewerStores, storeCount}
 
 samePlanned : Planned → Answer → List ℕ → Bool
 samePlanned p a slice = sameAnswer (p .answer) a && sameList (p .slice) slice
@@ -73,7 +76,7 @@ sameEnd (Block m) (Block n) = eqb m n
 
 '''
 ALONE = '// The definitions alone.\n'
-OPEN = 'unfolding computes sameAnswer sameList samePlanned sameInt sameEnd row sheet lies heightIn sheetHeight wayBy growthBy grownInodeBy somePlanBy writePlanBy'
+OPEN = 'unfolding computes sameAnswer sameList samePlanned sameInt sameEnd row sheet lies heightIn sheetHeight wayBy growthBy grownInodeBy somePlanBy writePlanBy t u v mostBlocks mostStores fewerStores storeCount'
 
 
 def numbers(xs):
@@ -255,6 +258,16 @@ class Vectors:
         self.pairs('format', words, 'formatPlan LAYOUT BOARD', B.format_pairs(len(words) // self.layout.width, self.layout))
 
     # The house's alone.
+
+    def most_stores(self, length):
+        self.add('most stores', [], 'eqb (mostStores %d) %d && eqb (fewerStores %d) %d' % (length, B.most_stores(length), length, B.sharp_most_stores(length)))
+
+    def stores(self, words, file, offset, new):
+        """How many stores the plan of a write has; how many fewer than it may have."""
+        pairs = self.plan_write(words, file, offset, new).pairs()
+        self.add('stores', words, 'eqb (storeCount (planOf (write LAYOUT BOARD %d %d %s (replicate %d 7)))) %d'
+                 % (file, offset, numbers(new), 2 * len(pairs), B.store_count(pairs)))
+        return B.sharp_most_stores(len(new)) - B.store_count(pairs)
 
     def height(self, size):
         self.add('height', [], 'eqb (sheetHeight %d) %d' % (size, B.least(size)))
@@ -440,6 +453,16 @@ def each_band(vectors, rnd):
             vectors.write_by(words, 9, size, some_bytes(rnd, 100), tall, least)
 
 
+def costs(vectors, rnd):
+    """The most stores of a write, at and next to each count of bytes that meets one block more; and stores of plans: of a word, of two bytes that cost as
+    many as they may, and of some more."""
+    for length in (1, 2, 8, 24, 64, 65, 66, 449, 450, 512, 3650, 4096, 4097, 32768):
+        vectors.most_stores(length)
+    words = made(vectors, rnd, 32, 9, 0, 4096, lambda h, start: True)
+    spare = [vectors.stores(words, 9, offset, some_bytes(rnd, count)) for offset, count in [(0, 3), (4095, 2), (63, 2), (100, 24)]]
+    assert spare[1] == 0, 'the bound is not met'
+
+
 def walks(vectors, rnd):
     """Walks on a board with one word made another, cut short, and on boards of every kind, for files and bytes of any number."""
     words = made(vectors, rnd, 24, 9, 2, 700, lambda h, start: h > 0 or start in (0, 512))
@@ -613,16 +636,17 @@ def text_of(vectors, chosen):
 
 def prove(vectors, crates=2):
     """What the prover says of the vectors as theorems, in some crates side by side over a copy of the definitions."""
-    texts = {'model/proofs/Lib.antt': 'pub mod Computing\n', 'examples/src/lib.rt': ALONE, 'bands/src/lib.rt': ALONE}
-    listed = 'model:\nexamples: model\nbands: model\n'
+    beside = ('examples', 'bands', 'bounds')
+    texts = {'model/proofs/Lib.antt': 'pub mod Computing\n', **{name + '/src/lib.rt': ALONE for name in beside}}
+    listed = 'model:\n' + ''.join(name + ': model\n' for name in beside)
     for c in range(crates):
-        listed += 'vectors%d: model examples bands\n' % c
+        listed += 'vectors%d: model %s\n' % (c, ' '.join(beside))
         texts['vectors%d/src/lib.rt' % c] = 'pub const PART: usize = %d;\n' % c
         texts['vectors%d/proofs/Lib.antt' % c] = 'pub mod Vectors\n'
         texts['vectors%d/proofs/Vectors.antt' % c] = text_of(vectors, range(c, len(vectors.all), crates))
     place = tempfile.mkdtemp()
     try:
-        for part in ('model/src', 'model/specs', 'model/proofs/Computing.antt', 'examples/specs', 'bands/specs'):
+        for part in ('model/src', 'model/specs', 'model/proofs/Computing.antt', *(name + '/specs' for name in beside)):
             source, target = os.path.join(ROOT, 'crates', part), os.path.join(place, 'crates', part)
             os.makedirs(os.path.dirname(target), exist_ok=True)
             (shutil.copytree if os.path.isdir(source) else shutil.copy)(source, target)
@@ -651,6 +675,7 @@ def main():
     each_height(vectors, rnd)
     each_band(vectors, rnd)
     walks(vectors, rnd)
+    costs(vectors, random.Random(seed))
     ways += narrow(vectors, rnd)
     published(vectors, rnd)
     status, said = prove(vectors)

@@ -1,16 +1,14 @@
 -- A write that costs as many stores as any may, by computation.
-use mathlib.Core.Path.{_≡_, refl}
+use mathlib.Core.Path.{refl}
 use mathlib.Core.List.{List, [], _∷_}
-use Prim.Native.Nat.{ℕ, _≤_}
+use Prim.Native.Nat.{ℕ}
 use native.Mathlib.Omega.{arith}
 use lib.ListN.{replicate}
-use lib.Dec.{T}
 use Rattle.model.specs.Lists.{all}
 use Rattle.model.specs.Words.{Bytes}
 use Rattle.model.specs.Layout.{house}
-use Rattle.model.specs.Board.{size, accepted}
 use Rattle.model.specs.Store.{performed, stores}
-use Rattle.model.specs.Calls.{Planned, write, setLength, format}
+use Rattle.model.specs.Calls.{write, setLength, format}
 use Rattle.model.specs.Cut.{planOf}
 use Rattle.model.proofs.Computing.{computes}
 use Rattle.bounds.specs.Bounds.{t, u, v, mostBlocks, fewerStores, storeCount}

@@ -15,7 +15,6 @@ use Rattle.model.specs.declared.Fault.the-variants.{WordCount, Trailer, Damaged
 use Rattle.model.specs.declared.Kind.{Kind}
 use Rattle.model.specs.declared.Kind.the-variants.{House, Published}
 use Rattle.model.specs.Lists.{tabulate, joined}
-use Rattle.model.specs.Words.{Bytes}
 use Rattle.model.specs.Layout.{Layout, Fits, files, layoutOf}
 use Rattle.model.specs.Board.{greatest, leaf, size, fileBlocks, liveBlocks, free, blockCount, accepted, wordCountSound}
 use Rattle.model.specs.Store.{Store}
@@ -27,7 +26,7 @@ use Rattle.model.specs.Calls.{wordCountFault, boardFaults, fileFaults, checkAns
 use Rattle.model.specs.Cut.{Change, writing, lengthTo, calledFrom}
 use Rattle.model.proofs.Cases.{either}
 use Rattle.model.proofs.Perform.{All, all-append, length-tabulate}
-use Rattle.model.proofs.Addresses.{all-left, all-right}
+use Rattle.model.proofs.Addresses.{all-left}
 use Rattle.model.proofs.Shown.{words-pos}
 use Rattle.model.proofs.Accepting.{Counted, counted, facts}
 use Rattle.model.proofs.Census.{census}
@@ -130,7 +129,7 @@ room-for g r b fresh (lengthTo f n) slice long =
     holds g r b ok p (length-bounded g (words-pos g (r .fit)) b f (facts g (r .fit) b ok .low f (file-passed g b f board)) n) (length-takes-none g r b ok f n))
 
 pub room-rule : RoomRule
-room-rule k b fresh c slice long = room-for (layoutOf k) (roomy k) b fresh c slice long
+room-rule k b fresh c slice long = room-for (layoutOf k) (roomy k) b fresh c slice (omega arith)
 
 -- format stores to fewer blocks than the least board has
 format-holds : (g : Layout) → Fits g → (b : List ℕ) → T (wordCountSound g b) → length (pairs (formatPlan g b)) ≤ length b
@@ -142,4 +141,4 @@ pub format-room-rule : FormatRoomRule
 unfolding format wordCountFault number All
 format-room-rule k b slice long =
     let g : Layout = layoutOf k in
-    holds-plan b slice (wordCountFault g b) (pairs (formatPlan g b)) (other WordCount (omega arith), tt) long (λ h. format-holds g (fits k) b (rw (not-false (wordCountSound g b) (h .0)) tt))
+    holds-plan b slice (wordCountFault g b) (pairs (formatPlan g b)) (other WordCount (omega arith), tt) (omega arith) (λ h. format-holds g (fits k) b (rw (not-false (wordCountSound g b) (h .0)) tt))

@@ -18,6 +18,7 @@ use Rattle.model.specs.Fresh.{need}
 use Rattle.model.specs.Change.{writePlan}
 use Rattle.model.specs.Calls.{lowest, writeFaults, writeFrom, write}
 use Rattle.model.proofs.Cases.{either}
+use Rattle.model.proofs.Sums.{sum-mono}
 use Rattle.model.proofs.Perform.{stores-append}
 use Rattle.model.proofs.Accepting.{facts}
 use Rattle.model.proofs.Epochs.{planned-either}
@@ -25,7 +26,7 @@ use Rattle.model.proofs.Rules.{write-passed}
 use Rattle.model.proofs.Formatted.{house-fits}
 use Rattle.bounds.specs.Bounds.{t, u, v, mostBlocks, mostStores, fewerStores, storeCount}
 use Rattle.bounds.specs.Claims.{StoresRule, CostRule}
-use Rattle.bounds.proofs.Stretches.{met, under-top, need-under, under-met}
+use Rattle.bounds.proofs.Stretches.{met, need-met}
 use Rattle.bounds.proofs.Stores.{cost}
 use Rattle.bounds.proofs.Sharp.{write-light}
 
@@ -73,19 +74,16 @@ met-v l = over (met-over 8 512 l (omega arith) (omega arith)) (met-mono 8 (met 5
     over h k = omega arith
 
 -- what written bytes take in a tree of height 3 at most
-pub house-need : (h o l : ℕ) → 0 < l → h ≤ 3 → need 8 h o l ≤ t l + u l + v l + 1
+house-need : (h o l : ℕ) → 0 < l → h ≤ 3 → need 8 h o l ≤ t l + u l + v l + 1
 unfolding sum span
-house-need h o l some low = by h low
-  where
-    pos : 0 < 8
-    pos = omega arith
-
-    by : (h : ℕ) → h ≤ 3 → need 8 h o l ≤ t l + u l + v l + 1
-    by zero le = omega (arith, need-under 8 0 o l, under-top 8 0 o l)
-    by (suc zero) le = omega (arith, need-under 8 1 o l, under-top 8 1 o l, under-met 8 pos 0 1 1 refl o l some, met-t l)
-    by (suc (suc zero)) le = omega (arith, need-under 8 2 o l, under-top 8 2 o l, under-met 8 pos 0 2 2 refl o l some, under-met 8 pos 1 1 2 refl o l some, met-t l, met-u l)
-    by (suc (suc (suc zero))) le = omega (arith, need-under 8 3 o l, under-top 8 3 o l, under-met 8 pos 0 3 3 refl o l some, under-met 8 pos 1 2 3 refl o l some, under-met 8 pos 2 1 3 refl o l some, met-t l, met-u l, met-v l)
-    by (suc (suc (suc (suc h)))) le = absurd (omega arith)
+house-need h o l some low = omega (
+  arith,
+  need-met 8 (omega arith) h o l some,
+  sum-mono (λ d. met (span 8 d) l) h 3 low,
+  met-t l,
+  met-u l,
+  met-v l,
+)
 
 -- ---- How many stores a write may cost
 

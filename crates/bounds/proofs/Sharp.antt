@@ -30,7 +30,7 @@ use Rattle.model.proofs.Splice.{length-part}
 use Rattle.model.proofs.Shown.{words-pos}
 use Rattle.model.proofs.Tailed.{tailNeed-dead, length-tail}
 use Rattle.model.proofs.WayNeeds.{empty-tail-needs}
-use Rattle.bounds.proofs.Stores.{ones, words-most, in-place-none, in-place-dead, Costs, single-costs, empty-costs, inside-costs, leaf-costs, Low, cost, steps-cost, growth-either, grown-low}
+use Rattle.bounds.proofs.Stores.{ones, words-most, in-place-none, in-place-dead, Costs, empty-costs, inside-costs, leaf-costs, Low, cost, steps-cost, growth-either, grown-low}
 use Rattle.bounds.proofs.Taken.{tail-most, not-tail, inside-takes, leaf-takes, growth-takes}
 
 sum-times : (w m : ℕ) (f : ℕ → ℕ) → sum m (λ j. w * f j) ≡ w * sum m f

@@ -1,7 +1,7 @@
 -- How many stores a plan has: W for each fresh block that it takes, and few others.
 use mathlib.Core.Path.{_≡_, refl, _∙_}
 use mathlib.Core.Logic.{_≢_, _⊎_, inl, inr}
-use mathlib.Core.Bool.{Bool, true, false, cond, _&&_}
+use mathlib.Core.Bool.{Bool, true, false, cond}
 use mathlib.Core.List.{List, [], _∷_, _++_}
 use Prim.Native.Nat.{ℕ, zero, suc, _+_, _-_, _*_, _/_, _%_, _≤_, _<_}
 use native.Mathlib.Omega.{arith}
@@ -13,7 +13,7 @@ use Rattle.model.specs.declared.WalkEnd.{WalkEnd}
 use Rattle.model.specs.declared.WalkEnd.the-variants.{Block, Hole}
 use Rattle.model.specs.Lists.{sum, choose, concat}
 use Rattle.model.specs.Layout.{Layout, Fits}
-use Rattle.model.specs.Tree.{live, span, least, cell}
+use Rattle.model.specs.Tree.{span, least, cell}
 use Rattle.model.specs.Board.{rootAddress, rootHeight, rootBlock, sizeAddress, size, inodeOf}
 use Rattle.model.specs.Store.{Store, store, barrier, performed, fenced}
 use Rattle.model.specs.Plan.{Step, step, stepEpochs, planEpochs, Plan, plan, pairs, afterwards}

@@ -9,7 +9,7 @@ use Rattle.model.specs.Lists.{sum}
 use Rattle.model.specs.Tree.{span}
 use Rattle.model.specs.Fresh.{partLength, need}
 use Rattle.model.proofs.Cases.{split}
-use Rattle.model.proofs.Sums.{sum-le, sum-add, sum-zero}
+use Rattle.model.proofs.Sums.{sum-cong, sum-le, sum-add, sum-zero}
 use Rattle.model.proofs.Paths.{need-none, need-data, need-node}
 use Rattle.model.proofs.Tailed.{part-nothing}
 
@@ -24,6 +24,15 @@ sum-swap : (m n : ℕ) (f : ℕ → ℕ → ℕ) → sum m (λ i. sum n (f i)) �
 unfolding sum
 sum-swap zero n f = sym (sum-zero n (λ j. 0) (λ j l. refl))
 sum-swap (suc m) n f = ap (λ (x : ℕ). x + sum n (f m)) (sum-swap m n f) ∙ sym (sum-add n (λ j. sum m (λ i. f i j)) (f m))
+
+-- the other way round
+sum-reversed : (m : ℕ) (f : ℕ → ℕ) → sum m (λ e. f (m - suc e)) ≡ sum m f
+unfolding sum
+sum-reversed zero f = refl
+sum-reversed (suc m) f =
+    let first : f (suc m - 1) ≡ f m = ap f (omega arith) in
+    let rest : sum m (λ i. f (suc m - suc (suc i))) ≡ sum m (λ i. f (m - suc i)) = sum-cong m _ _ (λ i l. ap f (omega arith)) in
+    omega (arith, sum-first m (λ e. f (suc m - suc e)), first, rest, sum-reversed m f)
 
 -- ---- Stretches. With p * s ≤ o and o + l ≤ q * s, l bytes at o lie in q - p stretches of s bytes
 
@@ -97,7 +106,7 @@ met-most s o l x two some within =
 
 module _ (W : ℕ) where
   -- how many trees e levels beneath the top of a tree of height h have one of l bytes written at o
-  unfoldable pub under : ℕ → ℕ → ℕ → ℕ → ℕ
+  unfoldable under : ℕ → ℕ → ℕ → ℕ → ℕ
   under zero h o l = min l 1
   under (suc e) zero o l = 0
   under (suc e) (suc h) o l = sum W (λ j. under e h (o - j * span W h) (partLength (span W h) j o l))
@@ -136,7 +145,7 @@ module _ (W : ℕ) where
         let next : suc m * W ^ e ≡ m * W ^ e + W ^ e = omega arith in
         rw next (beside p q (m * W ^ e) (W ^ e) _ _ (children m) (child m))
 
-  pub under-within : (d e h : ℕ) → h ≡ d + e → (o l : ℕ) → 0 < l → Within (span W d) o l (under e h o l)
+  under-within : (d e h : ℕ) → h ≡ d + e → (o l : ℕ) → 0 < l → Within (span W d) o l (under e h o l)
   unfolding under
   under-within d zero h eq o l some p q lo hi = elim (split q p) [
     | inl le ↦ absurd (omega (arith, mul-le-mul-right (span W d) le))
@@ -147,12 +156,12 @@ module _ (W : ℕ) where
       omega (arith, children d e h (omega arith) (under-within d e h (omega arith)) o l p q lo hi W)
 
   -- the tree itself
-  pub under-top : (h o l : ℕ) → under zero h o l ≤ 1
+  under-top : (h o l : ℕ) → under zero h o l ≤ 1
   unfolding under
   under-top h o l = omega arith
 
   -- a tree takes a fresh block for each
-  pub need-under : (h o l : ℕ) → need W h o l ≤ sum (suc h) (λ e. under e h o l)
+  need-under : (h o l : ℕ) → need W h o l ≤ sum (suc h) (λ e. under e h o l)
   unfolding under sum
   need-under zero o l = elim (split l 0) [
     | inl z ↦ let e : l ≡ 0 = omega arith in rw (e, need-none W zero o) (omega arith)
@@ -167,10 +176,21 @@ module _ (W : ℕ) where
     ))
   ]
 
-  pub under-met : (pos : 0 < W) (d e h : ℕ) → h ≡ d + e → (o l : ℕ) → 0 < l → under e h o l ≤ met (span W d) l
+  under-met : (pos : 0 < W) (d e h : ℕ) → h ≡ d + e → (o l : ℕ) → 0 < l → under e h o l ≤ met (span W d) l
   unfolding span
   under-met pos d e h eq o l some = met-most (span W d) o l (under e h o l) (two d) some (under-within d e h eq o l some)
     where
       two : (d : ℕ) → 2 ≤ span W d
       two zero = omega arith
       two (suc d) = omega (arith, two d, mul-le-mul-right (span W d) pos)
+
+  -- so it takes no more than the most trees of each height below its own that the bytes meet, and one for its top
+  pub need-met : 0 < W → (h o l : ℕ) → 0 < l → need W h o l ≤ 1 + sum h (λ d. met (span W d) l)
+  need-met pos h o l some = omega (
+    arith,
+    need-under h o l,
+    sum-first h (λ e. under e h o l),
+    under-top h o l,
+    sum-le h (λ e. under (suc e) h o l) (λ e. met (span W (h - suc e)) l) (λ e lt. under-met pos (h - suc e) (suc e) h (omega arith) o l some),
+    sum-reversed h (λ d. met (span W d) l),
+  )

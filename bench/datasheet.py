@@ -1,0 +1,154 @@
+#!/usr/bin/env python3
+"""The tables of docs/DATASHEET.md and its picture, from the CSV that target/bench/stores prints.
+
+    datasheet.py tables SIZES    Markdown; SIZES is a file with what `size` printed of the archives
+    datasheet.py picture         SVG
+"""
+import csv
+import math
+import os
+import sys
+
+from picture import GROUND, INK, LINE, PALE, text
+
+sys.path.insert(0, os.path.join(os.path.dirname(os.path.abspath(__file__)), os.pardir, 'tests', 'reference'))
+import board  # noqa: E402
+
+
+def read_parts():
+    """Each part of the CSV, as a list of rows."""
+    return [list(csv.DictReader(part.split('\n'))) for part in sys.stdin.read().strip().split('\n\n')]
+
+
+def row(*cells):
+    return '| %s |' % ' | '.join(cell if isinstance(cell, str) else format(cell, ',') for cell in cells)
+
+
+def table(heads, rows):
+    return [row(*heads), '|' + '---|' * len(heads), *rows, '']
+
+
+# ---- Tables
+
+
+def dearest(met):
+    height, offset, size = int(met['height']), int(met['offset']), int(met['size'])
+    return 'at %s of a file of size %s, its root of height %d' % (format(offset, ','), format(size, ','), height)
+
+
+def stores_table(writes):
+    heads = ['Bytes written', 'At most, + 32', 'At most, + 2', 'Most met', 'By a write', 'Plans counted']
+    return table(heads, [row(*(int(w[k]) for k in ('bytes', 'figure', 'sharp', 'most')), dearest(w), int(w['planned'])) for w in writes])
+
+
+def others_table(writes, lengths):
+    most = max(int(w['barriers']) for w in writes)
+    return table(['Change', 'Most met', 'Plans counted'], [
+        row('Barriers of a write', most, sum(int(w['planned']) for w in writes)),
+        row('Stores of a length change', int(lengths['most']), int(lengths['lengths'])),
+    ])
+
+
+def visited_table(writes):
+    return table(['Bytes read', 'Most blocks on their paths'], [row(int(w['bytes']), int(w['visited'])) for w in writes])
+
+
+def limits_table(boards):
+    heads = ['Board', 'Blocks', 'Words', 'Bytes', 'Free blocks after format', 'Greatest file, in bytes', 'Words of a plan, at most']
+    return table(heads, [row(b['board'], *(int(b[k]) for k in ('blocks', 'words', 'bytes', 'free', 'greatest')), 2 * int(b['words'])) for b in boards])
+
+
+def sizes_table(path):
+    with open(path) as sizes:
+        lines = [line.split() for line in sizes.read().strip().split('\n')[1:]]
+    names = {'cabinet.o': '`libcabinet.a`', 'hosts.o': '`libhosts.a`', 'probes.o': '`libprobes.a`, for tests alone'}
+    return table(['Archive', 'Bytes of code', 'Bytes of data'], [row(names[line[5]], int(line[0]), int(line[1]) + int(line[2])) for line in lines])
+
+
+def tables(path):
+    writes, [lengths], boards = read_parts()
+    return [*stores_table(writes), *others_table(writes, lengths), *visited_table(writes), *limits_table(boards), *sizes_table(path)]
+
+
+# ---- Picture: bytes to the right, stores upward, both by doubling
+
+LEFT, TOP, WIDTH, HEIGHT = 90, 84, 760, 430
+FIGURE, SHARP, MET, DATA = '#d08a2e', '#1f5f8b', '#22262a', '#9a9fa5'
+MOST_BYTES, LEAST_STORES, MOST_STORES = 32768, 1, 8192
+
+
+def across(length):
+    return LEFT + WIDTH * math.log(length) / math.log(MOST_BYTES)
+
+
+def upward(stores):
+    return TOP + HEIGHT - HEIGHT * math.log(stores / LEAST_STORES) / math.log(MOST_STORES / LEAST_STORES)
+
+
+def lengths():
+    """Every length up to 1,024, then eight to a doubling."""
+    return list(range(1, 1025)) + [round(1024 * 2 ** (i / 8)) for i in range(1, 41)]
+
+
+def steps(most, colour, style=''):
+    """A line that stays level up to the next length."""
+    found, last = [], None
+    for length in lengths():
+        stores = most(length)
+        if stores != last:
+            x = across(length)
+            found += ['%.1f,%.1f' % (x, upward(last or stores)), '%.1f,%.1f' % (x, upward(stores))]
+            last = stores
+    found.append('%.1f,%.1f' % (across(MOST_BYTES), upward(last)))
+    return '<polyline points="%s" fill="none" stroke="%s" stroke-width="2"%s/>' % (' '.join(found), colour, style)
+
+
+def grid():
+    for length in [1, 8, 64, 512, 4096, 32768]:
+        x = across(length)
+        yield '<line x1="%.1f" y1="%d" x2="%.1f" y2="%d" stroke="%s"/>' % (x, TOP, x, TOP + HEIGHT, LINE)
+        yield text(round(x, 1), TOP + HEIGHT + 18, format(length, ','), 12, 'middle', PALE)
+    for stores in [1, 8, 64, 512, 4096]:
+        y = upward(stores)
+        yield '<line x1="%d" y1="%.1f" x2="%d" y2="%.1f" stroke="%s"/>' % (LEFT, y, LEFT + WIDTH, y, LINE)
+        yield text(LEFT - 8, round(y + 4, 1), format(stores, ','), 12, 'end', PALE)
+
+
+def legend():
+    x = LEFT
+    for words, colour in [('8 × (t + u + v + 5) + 32', FIGURE), ('+ 2', SHARP), ('most met', MET), ('words of the bytes alone', DATA)]:
+        yield '<rect x="%g" y="52" width="12" height="12" fill="%s"/>' % (x, colour)
+        yield text(x + 18, 62.5, words)
+        x += 50 + 7.5 * len(words)
+
+
+def label(x, y, length, words):
+    """Under the lines while they are level, left of them where they rise."""
+    if length <= 512:
+        return text(x, y + 20, words, 12, 'middle' if length > 1 else 'start', INK)
+    return text(x - 12, y - 8, words, 12, 'end', INK)
+
+
+def picture():
+    writes, _, _ = read_parts()
+    width, height = LEFT + WIDTH + 40, TOP + HEIGHT + 62
+    yield '<svg xmlns="http://www.w3.org/2000/svg" width="%d" height="%d"' % (width, height)
+    yield '     viewBox="0 0 %d %d" font-family="DejaVu Sans, Verdana, Arial, sans-serif">' % (width, height)
+    yield '<rect width="%d" height="%d" fill="%s"/>' % (width, height, GROUND)
+    yield text(24, 32, 'Stores that a write costs at most, by its bytes', 18, weight='bold')
+    yield from legend()
+    yield from grid()
+    yield steps(lambda length: (length + 7) // 8, DATA, ' stroke-dasharray="4 3"')
+    yield steps(board.most_stores, FIGURE)
+    yield steps(board.sharp_most_stores, SHARP)
+    for met in writes:
+        x, y = across(int(met['bytes'])), upward(int(met['most']))
+        yield '<circle cx="%.1f" cy="%.1f" r="4.5" fill="%s"/>' % (x, y, MET)
+        yield label(round(x, 1), round(y, 1), int(met['bytes']), format(int(met['most']), ','))
+    yield text(LEFT + WIDTH / 2, TOP + HEIGHT + 42, 'bytes written, from an offset that does not lie past the size', 12, 'middle', PALE)
+    yield text(24, TOP - 8, 'stores', 12, fill=PALE)
+    yield '</svg>'
+
+
+if __name__ == '__main__':
+    print('\n'.join(tables(sys.argv[2]) if sys.argv[1] == 'tables' else picture()))
