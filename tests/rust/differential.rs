@@ -1,14 +1,16 @@
 //! The built library held against document 01 in plain Rust (docs/src): every answer, and every word and byte of what a
 //! call is lent, on random boards, damaged ones among them, and with arguments at and around every bound. On the house's
-//! boards, or with the word `published` on N11's.
+//! boards, also N12's bound on the stores of a write; or with the word `published` on N11's boards.
 //!
 //!     differential [published] SEED CALLS [ROUND]    rounds of the seed from ROUND on, until CALLS calls were compared
 
 mod calls;
+mod costs;
 mod damages;
 mod walks;
 
 use calls::Calls;
+use costs::Costs;
 use damages::Damages;
 use probes::PUBLISHED;
 use std::io::Write;
@@ -27,12 +29,17 @@ const FAR_FILES: [u64; 7] = [32, 33, 64, 256, 1 << 32, 1 << 63, u64::MAX];
 /// A sweep through all arguments is one among so many rounds.
 const SWEEP_EVERY: u64 = 400;
 
+/// A write that comes up to N12's bound is made before one among so many.
+const COSTS_EVERY: u64 = 4;
+
 /// What is held against what, and how much of it.
 struct Trial {
     library: &'static Library,
     document: &'static document::Layout,
     /// Whether boards are also lent as images.
     on_images: bool,
+    /// Whether N12's bound is for writes to them.
+    bounded: bool,
     /// How many sweeps come before random rounds, and the sizes of their boards.
     sweeps: u64,
     swept: &'static [u64],
@@ -46,6 +53,7 @@ static ON_HOUSE: Trial = Trial {
     library: &HOUSE,
     document: &document::HOUSE,
     on_images: true,
+    bounded: true,
     sweeps: 8,
     swept: &[16, 24, 40, 100],
     copies: 0,
@@ -57,6 +65,7 @@ static ON_PUBLISHED: Trial = Trial {
     library: &PUBLISHED,
     document: &document::PUBLISHED,
     on_images: false,
+    bounded: false,
     sweeps: 2,
     swept: &[16, 17, 24],
     copies: 4,
@@ -70,6 +79,7 @@ struct Test {
     layout: &'static Layout,
     calls: Calls,
     ways: Ways,
+    costs: Costs,
     damages: Damages,
     /// The accepted boards of rounds, by how many blocks they have.
     counts: Kinds,
@@ -218,11 +228,17 @@ impl Test {
         self.calls.read(board, file, offset, room as usize);
     }
 
+    /// A call that plans, with twice the board's words for the plan. That is room for any.
+    fn with_room(&mut self, board: &[u64], call: impl Fn(&mut Calls, usize) -> (i64, Vec<u64>)) -> (i64, Vec<u64>) {
+        let (pairs, plan) = call(&mut self.calls, room(board));
+        assert!(pairs != -8, "a plan has more pairs than the board has words");
+        (pairs, plan)
+    }
+
     /// A call that plans, with ample room and then with room around what the plan needs. Answers the plan, or nothing if
     /// the call is refused.
     fn planned(&mut self, board: &[u64], call: impl Fn(&mut Calls, usize) -> (i64, Vec<u64>)) -> Option<Vec<u64>> {
-        let (pairs, mut plan) = call(&mut self.calls, room(board));
-        assert!(pairs != -8, "a plan has more pairs than the board has words");
+        let (pairs, mut plan) = self.with_room(board, &call);
         let tight = around_need(&mut self.random, pairs);
         call(&mut self.calls, tight);
         plan.truncate(2 * pairs.max(0) as usize);
@@ -243,6 +259,13 @@ impl Test {
         }
     }
 
+    /// The stores of an accepted write are counted where they are bounded.
+    fn costed(&mut self, board: &[u64], file: u64, stretch: (u64, usize), plan: (u64, &[u64])) {
+        if self.trial.bounded {
+            self.costs.write(board, file, stretch, plan);
+        }
+    }
+
     fn writing(&mut self, board: &mut Vec<u64>, few: &[u64; 3]) {
         let file = file(&mut self.random, few);
         let size = self.size(board, file);
@@ -252,6 +275,7 @@ impl Test {
         let planned = self.planned(board, |calls, room| calls.write(board, file, offset, &bytes, room));
         if let Some(plan) = planned {
             self.ways.write(board, file, offset, offset + count as u64, &plan);
+            self.costed(board, file, (offset, count), (plan.len() as u64 / 2, &plan));
             self.performed(board, &plan);
         }
     }
@@ -286,6 +310,7 @@ impl Test {
     }
 
     fn formatting(&mut self, board: &[u64]) {
+        self.with_room(board, |calls, room| calls.format(board, room));
         let pairs = self.layout.format_pairs;
         let need = 2 * pairs;
         let room = self.random.pick(&[0, 1, pairs, need - 2, need - 1, need, need + 1, 2 * need]);
@@ -373,7 +398,6 @@ impl Test {
         if self.random.one_in(4) {
             layout.damage(&mut self.random, &mut board);
         }
-        let room = room(&board);
         for file in (0..FILES).chain(FAR_FILES) {
             self.calls.size(&board, file);
             for offset in around_bounds(layout) {
@@ -381,8 +405,12 @@ impl Test {
                 let count = self.random.pick(&[0, 1, 2, 8, 9, bytes, bytes + 1]);
                 let bytes = self.some_bytes(count);
                 self.calls.read(&board, file, offset, count);
-                self.calls.write(&board, file, offset, &bytes, room);
-                self.calls.set_length(&board, file, offset, room);
+                let (pairs, plan) =
+                    self.with_room(&board, |calls, room| calls.write(&board, file, offset, &bytes, room));
+                if pairs >= 0 {
+                    self.costed(&board, file, (offset, count), (pairs as u64, &plan));
+                }
+                self.with_room(&board, |calls, room| calls.set_length(&board, file, offset, room));
             }
         }
     }
@@ -453,8 +481,9 @@ impl Test {
         let mut random = Random::new(seed, u64::MAX);
         let pool = random.bytes(layout.greatest() as usize + 7232);
         let calls = Calls::of(library, trial.document, trial.on_images);
-        let (ways, damages, counts) = (Ways::of(library), Damages::default(), Kinds::default());
-        Test { random, trial, library, layout, calls, ways, damages, counts, pool }
+        let (ways, costs) = (Ways::of(library), Costs::default());
+        let (damages, counts) = (Damages::default(), Kinds::default());
+        Test { random, trial, library, layout, calls, ways, costs, damages, counts, pool }
     }
 
     fn rounds(&mut self, words: &Words, walks: &mut Walks) {
@@ -462,9 +491,13 @@ impl Test {
             if self.calls.compared() >= words.wanted {
                 break;
             }
+            // Walks and the writes for costs have numbers of their own, so that the other calls of a round are the same
+            // with and without them.
             if !words.published {
-                // Walks have numbers of their own, so that the other calls are the same with and without them.
                 walks.round(&mut Random::new(words.seed, !round - 1));
+            }
+            if self.trial.bounded && round % COSTS_EVERY == 0 {
+                self.costs.round(&mut Random::new(words.seed, (1 << 32) + round), &mut self.calls);
             }
             self.random = Random::new(words.seed, round);
             if round < self.trial.sweeps || round % SWEEP_EVERY == 0 {
@@ -497,8 +530,10 @@ fn main() {
     }
     if !words.published {
         bands_are_spans();
+        test.costs.report();
         walks.report();
         if words.wanted >= trial.enough {
+            test.costs.all_met();
             walks.all_met();
         }
     }

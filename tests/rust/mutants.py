@@ -41,6 +41,17 @@ HOUSE = [
     ('held: a null root counted', 'board', 'let reached = reach_file(', 'held[0] = inode.root / 8 == 0;\n    let reached = reach_file('),
     ('held: a pointer past the size followed', 'board', 'reach_file(board, &mut held, inode)', 'reach_file(board, &mut held, Inode { size: inode.tree().end().min(board.layout.greatest_size), ..inode })'),
     ('held: the highest pointer block left out', 'lister', 'held_count(board, inode)', 'held_count(board, inode).saturating_sub(inode.tree().height.min(1))'),
+    ('stores: t without its + 1', 'costs', '(length + 62) / 64 + 1', '(length + 62) / 64'),
+    ('stores: u without its + 1', 'costs', '(t + 6) / 8 + 1', '(t + 6) / 8'),
+    ('stores: v without its + 1', 'costs', '(u + 6) / 8 + 1', '(u + 6) / 8'),
+    ("stores: two bytes don't reach a second block", 'costs', '(length + 62)', '(length + 61)'),
+    ('stores: one block fewer', 'costs', '8 * (t + u + v + 5)', '8 * (t + u + v + 4)'),
+    ('stores: growth left out', 'costs', '8 * (t + u + v + 5)', '8 * (t + u + v + 2)'),
+    ('stores: one commit fewer', 'costs', 'block_stores(length) + 2', 'block_stores(length) + 1'),
+    ('stores: one commit more', 'costs', 'block_stores(length) + 2', 'block_stores(length) + 3'),
+    ('stores: 40 in place of 32', 'costs', 'block_stores(length) + 32', 'block_stores(length) + 40'),
+    ('stores: barriers counted', 'costs', '.filter(|pair| pair[0] != BARRIER)', '.filter(|_| true)'),
+    ('stores: pairs past the plan counted', 'costs', '.take(pairs as usize)', ''),
 ]
 
 # Found on the house's boards and on published ones.
