@@ -32,13 +32,13 @@ def table(heads, rows):
 
 
 def dearest(met):
-    height, offset, size = int(met['height']), int(met['offset']), int(met['size'])
-    return 'at %s of a file of size %s, its root of height %d' % (format(offset, ','), format(size, ','), height)
+    root = 'its tree' if int(met['block']) else 'its null root'
+    return 'at %s of a file of size %s, %s of height %s' % (format(int(met['offset']), ','), format(int(met['size']), ','), root, met['height'])
 
 
 def stores_table(writes):
-    heads = ['Bytes written', 'At most, + 32', 'At most, + 2', 'Most met', 'By a write', 'Plans counted']
-    return table(heads, [row(*(int(w[k]) for k in ('bytes', 'figure', 'sharp', 'most')), dearest(w), int(w['planned'])) for w in writes])
+    heads = ['Bytes written', 'At most, + 32', 'At most, + 2', 'Most met', 'By a write', 'Plans counted', 'Words of its plan, at most']
+    return table(heads, [row(*(int(w[k]) for k in ('bytes', 'figure', 'sharp', 'most')), dearest(w), int(w['planned']), 2 * (int(w['sharp']) + 3)) for w in writes])
 
 
 def others_table(writes, lengths):
@@ -54,8 +54,8 @@ def visited_table(writes):
 
 
 def limits_table(boards):
-    heads = ['Board', 'Blocks', 'Words', 'Bytes', 'Free blocks after format', 'Greatest file, in bytes', 'Words of a plan, at most']
-    return table(heads, [row(b['board'], *(int(b[k]) for k in ('blocks', 'words', 'bytes', 'free', 'greatest')), 2 * int(b['words'])) for b in boards])
+    heads = ['Board', 'Blocks', 'Words', 'Bytes', 'Free blocks after format', 'Most bytes of one file', 'Greatest size, holes included', 'Words of any plan, at most']
+    return table(heads, [row(b['board'], *(int(b[k]) for k in ('blocks', 'words', 'bytes', 'free', 'held', 'greatest')), 2 * int(b['words'])) for b in boards])
 
 
 def sizes_table(path):
@@ -85,22 +85,22 @@ def upward(stores):
     return TOP + HEIGHT - HEIGHT * math.log(stores / LEAST_STORES) / math.log(MOST_STORES / LEAST_STORES)
 
 
-def lengths():
-    """Every length up to 1,024, then eight to a doubling."""
-    return list(range(1, 1025)) + [round(1024 * 2 ** (i / 8)) for i in range(1, 41)]
+def line(points, colour, style=''):
+    return '<polyline points="%s" fill="none" stroke="%s" stroke-width="2"%s/>' % (' '.join('%.1f,%.1f' % point for point in points), colour, style)
 
 
-def steps(most, colour, style=''):
-    """A line that stays level up to the next length."""
-    found, last = [], None
-    for length in lengths():
-        stores = most(length)
-        if stores != last:
-            x = across(length)
-            found += ['%.1f,%.1f' % (x, upward(last or stores)), '%.1f,%.1f' % (x, upward(stores))]
-            last = stores
-    found.append('%.1f,%.1f' % (across(MOST_BYTES), upward(last)))
-    return '<polyline points="%s" fill="none" stroke="%s" stroke-width="2"%s/>' % (' '.join(found), colour, style)
+def steps(most, last):
+    """Level up to the first length that costs more, for every length up to the last."""
+    costs = [most(length) for length in range(1, last + 1)]
+    found = [(across(1), upward(costs[0]))]
+    for i in range(1, last):
+        if costs[i] != costs[i - 1]:
+            found += [(across(i + 1), upward(costs[i - 1])), (across(i + 1), upward(costs[i]))]
+    return found + [(across(last), upward(costs[-1]))]
+
+
+def words(length):
+    return (length + 7) // 8
 
 
 def grid():
@@ -138,9 +138,9 @@ def picture():
     yield text(24, 32, 'Stores that a write costs at most, by its bytes', 18, weight='bold')
     yield from legend()
     yield from grid()
-    yield steps(lambda length: (length + 7) // 8, DATA, ' stroke-dasharray="4 3"')
-    yield steps(board.most_stores, FIGURE)
-    yield steps(board.sharp_most_stores, SHARP)
+    yield line(steps(words, 64) + [(across(MOST_BYTES), upward(words(MOST_BYTES)))], DATA, ' stroke-dasharray="4 3"')
+    yield line(steps(board.most_stores, MOST_BYTES), FIGURE)
+    yield line(steps(board.sharp_most_stores, MOST_BYTES), SHARP)
     for met in writes:
         x, y = across(int(met['bytes'])), upward(int(met['most']))
         yield '<circle cx="%.1f" cy="%.1f" r="4.5" fill="%s"/>' % (x, y, MET)

@@ -37,7 +37,7 @@ struct Dearest {
     stores: u64,
     offset: u64,
     size: u64,
-    height: u64,
+    root: u64,
     planned: u64,
 }
 
@@ -73,7 +73,7 @@ impl Count {
         self.barriers = self.barriers.max(pairs - stores);
         let planned = self.dearest.planned + 1;
         if stores > self.dearest.stores {
-            self.dearest = Dearest { stores, offset, size, height: LAYOUT.low_of(root), planned };
+            self.dearest = Dearest { stores, offset, size, root, planned };
         }
         self.dearest.planned = planned;
     }
@@ -142,8 +142,8 @@ fn trees() -> Vec<Vec<u64>> {
 
 // ---- Changes of a length
 
-/// The most stores of a change of a length, from every size, to the greatest length, to one byte more and to one less; and
-/// how many were planned.
+/// The most stores of a change of a length, from each size that is tried to the greatest length, to one byte more and to
+/// one less; and how many were planned.
 fn lengths(boards: &[Vec<u64>], all: bool) -> (u64, u64) {
     let (mut most, mut planned) = (0, 0);
     for tree in boards {
@@ -176,6 +176,20 @@ fn visited(board: &[u64], length: u64) -> u64 {
 
 // ---- The least and the greatest boards
 
+/// The most bytes that an empty file can be given in one write, so that none is in a hole.
+fn most_held(library: &Library, board: &[u64], plan: &mut [u64]) -> usize {
+    let bytes = vec![1; library.layout.greatest() as usize];
+    let (mut held, mut refused) = (0, bytes.len() + 1);
+    while held + 1 < refused {
+        let count = held + (refused - held) / 2;
+        match library.write(board, FILE, 0, &bytes[..count], plan) {
+            -7 => refused = count,
+            answer => held = if done(answer) > 0 { count } else { held },
+        }
+    }
+    held
+}
+
 fn limits(kind: &str, library: &Library) {
     let layout = library.layout;
     for blocks in [layout.fewest, layout.most] {
@@ -184,7 +198,8 @@ fn limits(kind: &str, library: &Library) {
         let pairs = done(library.format(&board, &mut plan));
         library.perform_whole(&mut board, &plan[..2 * pairs as usize]);
         let (words, free) = (board.len(), done(library.free_count(&board)));
-        println!("{kind},{blocks},{words},{},{free},{}", 8 * words, layout.greatest());
+        let held = most_held(library, &board, &mut plan);
+        println!("{kind},{blocks},{words},{},{free},{held},{}", 8 * words, layout.greatest());
     }
 }
 
@@ -206,17 +221,17 @@ fn main() {
         }
     }
     let tall = full(LAYOUT.greatest_height());
-    println!("bytes,figure,sharp,most,offset,size,height,planned,visited,barriers");
+    println!("bytes,figure,sharp,most,offset,size,height,block,planned,visited,barriers");
     for count in &counts {
         let length = count.length();
         let (figure, sharp, visited) = (most_stores(length), sharp_most_stores(length), visited(&tall, length));
-        let Dearest { stores, offset, size, height, planned } = count.dearest;
-        let barriers = count.barriers;
-        println!("{length},{figure},{sharp},{stores},{offset},{size},{height},{planned},{visited},{barriers}");
+        let Dearest { stores, offset, size, root, planned } = count.dearest;
+        let (height, block, barriers) = (LAYOUT.low_of(root), LAYOUT.block_of(root), count.barriers);
+        println!("{length},{figure},{sharp},{stores},{offset},{size},{height},{block},{planned},{visited},{barriers}");
     }
     let (most, planned) = lengths(&boards, all);
     println!("\nlengths,most\n{planned},{most}");
-    println!("\nboard,blocks,words,bytes,free,greatest");
+    println!("\nboard,blocks,words,bytes,free,held,greatest");
     limits("house", &HOUSE);
     limits("published", &PUBLISHED);
 }

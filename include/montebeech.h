@@ -37,7 +37,7 @@ extern "C" {
 #define MONTEBEECH_BARRIER UINT64_MAX  /* the address of a pair that is a barrier */
 #define MONTEBEECH_FORMAT_WORDS 166    /* of a plan of format */
 /* Words of a plan that are enough for every plan of a board of board_len words: with so many no call refuses 8. */
-#define MONTEBEECH_PLAN_WORDS(board_len) (2 * (size_t)(board_len))
+#define MONTEBEECH_PLAN_WORDS(board_len) (2 * (board_len))
 
 enum montebeech_refusal {
     MONTEBEECH_WORD_COUNT = 1,  /* an image's bytes or a board's words are too few, too many or no whole blocks */

@@ -179,15 +179,19 @@ static void perform_refuses(void)
 
 /* ---- Plan slices: so many words as the header gives are enough for every call, on whatever words. */
 
+static unsigned planned; /* calls that were accepted with a plan of some pairs */
+
 static void is_not_8(const char *call, int64_t found)
 {
+    planned += found > 0;
     if (fails(found != -MONTEBEECH_PLAN_LENGTH))
         printf("%s: refused 8 with %zu words of plan for a board of %zu\n", call, MONTEBEECH_PLAN_WORDS(board_len), board_len);
 }
 
-/* Writes of every length from the end of file 0 on, those that take all free blocks among them; lengths; format. */
-static void calls_have_room(void)
+/* Writes of many lengths from the end of file 0 on, and lengths; format. At least so many must be accepted. */
+static void calls_have_room(unsigned least)
 {
+    planned = 0;
     size_t lent = MONTEBEECH_PLAN_WORDS(board_len);
     int64_t size = montebeech_words_size(board, board_len, 0);
     uint64_t offset = size < 0 ? 0 : (uint64_t)size;
@@ -198,6 +202,8 @@ static void calls_have_room(void)
         is_not_8("length change", montebeech_words_set_length(board, board_len, 0, len, plan, lent));
     }
     is_not_8("format", montebeech_words_format(board, board_len, plan, lent));
+    if (fails(planned >= least))
+        printf("%zu words: expected %u plans at least, found %u\n", board_len, least, planned);
 }
 
 static void plan_words_suffice(void)
@@ -205,13 +211,13 @@ static void plan_words_suffice(void)
     about("words of a plan");
     for (size_t blocks = 16; blocks <= 1024; blocks *= 2) {
         format(blocks);
-        calls_have_room();
+        calls_have_room(100);
         write_bytes(0, 0, 64 * (blocks / 8));
-        calls_have_room();
-        board_len -= 8; /* no trailer */
-        calls_have_room();
+        calls_have_room(100);
+        board_len -= 8; /* no trailer: format alone is accepted, and not below 16 blocks */
+        calls_have_room(blocks > 16);
         board_len = 3;
-        calls_have_room();
+        calls_have_room(0);
     }
 }
 

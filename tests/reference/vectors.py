@@ -57,7 +57,7 @@ use Rattle.examples.specs.Examples.{sameList, sameAnswer}
 use Rattle.bands.specs.Sheet.{row, sheet, lies, heightIn, sheetHeight}
 use Rattle.bands.specs.Planned.{wayBy, growthBy, grownInodeBy, somePlanBy, writePlanBy}
 use Rattle.model.specs.Cut.{planOf}
-use Rattle.bounds.specs.Bounds.{t, u, v, mostBlocks, mostStores, fewerStores, storeCount}
+use Rattle.bounds.specs.Bounds.{t, u, v, mostBlocks, mostStores, sharpStores, storeCount}
 
 samePlanned : Planned → Answer → List ℕ → Bool
 samePlanned p a slice = sameAnswer (p .answer) a && sameList (p .slice) slice
@@ -76,7 +76,7 @@ sameEnd (Block m) (Block n) = eqb m n
 
 '''
 ALONE = '// The definitions alone.\n'
-OPEN = 'unfolding computes sameAnswer sameList samePlanned sameInt sameEnd row sheet lies heightIn sheetHeight wayBy growthBy grownInodeBy somePlanBy writePlanBy t u v mostBlocks mostStores fewerStores storeCount'
+OPEN = 'unfolding computes sameAnswer sameList samePlanned sameInt sameEnd row sheet lies heightIn sheetHeight wayBy growthBy grownInodeBy somePlanBy writePlanBy t u v mostBlocks mostStores sharpStores storeCount'
 
 
 def numbers(xs):
@@ -260,7 +260,7 @@ class Vectors:
     # The house's alone.
 
     def most_stores(self, length):
-        self.add('most stores', [], 'eqb (mostStores %d) %d && eqb (fewerStores %d) %d' % (length, B.most_stores(length), length, B.sharp_most_stores(length)))
+        self.add('most stores', [], 'eqb (mostStores %d) %d && eqb (sharpStores %d) %d' % (length, B.most_stores(length), length, B.sharp_most_stores(length)))
 
     def stores(self, words, file, offset, new):
         """How many stores the plan of a write has; how many fewer than it may have."""
@@ -454,9 +454,9 @@ def each_band(vectors, rnd):
 
 
 def costs(vectors, rnd):
-    """The most stores of a write, at and next to each count of bytes that meets one block more; and stores of plans: of a word, of two bytes that cost as
-    many as they may, and of some more."""
-    for length in (1, 2, 8, 24, 64, 65, 66, 449, 450, 512, 3650, 4096, 4097, 32768):
+    """The most stores of a write, on both sides of counts of bytes where t grows, u grows too, and v too; and stores of plans: of a word, of two bytes that
+    cost as many as they may, and of some more."""
+    for length in (1, 2, 24, 65, 66, 513, 514, 1025, 1026, 4096, 4097, 4098, 32705, 32768):
         vectors.most_stores(length)
     words = made(vectors, rnd, 32, 9, 0, 4096, lambda h, start: True)
     spare = [vectors.stores(words, 9, offset, some_bytes(rnd, count)) for offset, count in [(0, 3), (4095, 2), (63, 2), (100, 24)]]

@@ -11,7 +11,7 @@ use Rattle.model.specs.Store.{performed, stores}
 use Rattle.model.specs.Calls.{write, setLength, format}
 use Rattle.model.specs.Cut.{planOf}
 use Rattle.model.proofs.Computing.{computes}
-use Rattle.bounds.specs.Bounds.{t, u, v, mostBlocks, fewerStores, storeCount}
+use Rattle.bounds.specs.Bounds.{t, u, v, mostBlocks, sharpStores, storeCount}
 use Rattle.bounds.specs.Claims.{MetRule}
 
 lent : List ℕ
@@ -35,5 +35,5 @@ unfolding all
 last = record { values = 1 ∷ 2 ∷ []; small = tt }
 
 pub met-rule : MetRule
-unfolding computes lent empty begun long last t u v mostBlocks fewerStores storeCount
-met-rule = (long, 4095, last, lent, tt, omega arith, omega arith, refl)
+unfolding computes lent empty begun long last t u v mostBlocks sharpStores storeCount
+met-rule = (long, 4095, last, lent, omega arith, omega arith, refl)

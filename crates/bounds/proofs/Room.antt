@@ -1,5 +1,5 @@
 -- A plan slice of twice the board's words holds every plan.
-use mathlib.Core.Path.{_≡_, sym, ap, _∙_}
+use mathlib.Core.Path.{_≡_, refl, sym, ap, _∙_}
 use mathlib.Core.Logic.{_≢_, inl, inr}
 use mathlib.Core.Bool.{Bool, true, false, cond}
 use mathlib.Core.List.{List, [], _∷_, _++_}
@@ -15,7 +15,7 @@ use Rattle.model.specs.declared.Fault.the-variants.{WordCount, Trailer, Damaged
 use Rattle.model.specs.declared.Kind.{Kind}
 use Rattle.model.specs.declared.Kind.the-variants.{House, Published}
 use Rattle.model.specs.Lists.{tabulate, joined}
-use Rattle.model.specs.Layout.{Layout, Fits, files, layoutOf}
+use Rattle.model.specs.Layout.{Layout, Fits, files, house, layoutOf}
 use Rattle.model.specs.Board.{greatest, leaf, size, fileBlocks, liveBlocks, free, blockCount, accepted, wordCountSound}
 use Rattle.model.specs.Store.{Store}
 use Rattle.model.specs.Plan.{Step, Plan, plan, pairs}
@@ -30,12 +30,14 @@ use Rattle.model.proofs.Addresses.{all-left}
 use Rattle.model.proofs.Shown.{words-pos}
 use Rattle.model.proofs.Accepting.{Counted, counted, facts}
 use Rattle.model.proofs.Census.{census}
-use Rattle.model.proofs.Epochs.{Passed, answered-passed}
-use Rattle.model.proofs.Refusals.{not-refused, check-accepts}
+use Rattle.model.proofs.Epochs.{Passed}
+use Rattle.model.proofs.Refusals.{not-refused}
 use Rattle.model.proofs.Rules.{file-passed, write-passed}
 use Rattle.model.proofs.Formatted.{format-pairs, fits}
-use Rattle.bounds.specs.Claims.{RoomRule, FormatRoomRule}
+use Rattle.bounds.specs.Bounds.{sharpStores}
+use Rattle.bounds.specs.Claims.{RoomRule, FormatRoomRule, WriteRoomRule}
 use Rattle.bounds.proofs.Stores.{extra, Bounded, pairs-most, write-bounded, length-bounded}
+use Rattle.bounds.proofs.Rules.{file-accepts, write-accepts, write-low, done-pairs}
 
 -- ---- How many pairs there are
 
@@ -65,15 +67,15 @@ module _ (g : Layout) (r : Roomy g) (b : List ℕ) (ok : T (accepted g b)) where
       let taken : g .words * p .taken ≤ g .words * length (free g b) = mul-le-mul-left (g .words) room in
       let levels : g .words * g .height ≤ g .words * (g .leaves + 1) = mul-le-mul-left (g .words) (r .low) in
       let fewer : (g .words - 1) * g .height ≤ g .words * g .height = mul-le-mul-right (g .height) (omega arith) in
-      omega (arith, r .wide, pairs-most (g .words) (extra g) p bounded)
+      omega (arith, r .wide, bounded .all, pairs-most (g .words) (extra g) p bounded)
 
-  length-takes-none : (f n : ℕ) → lengthPlan g b f n .taken ≤ length (free g b)
-  unfolding lengthPlan plan
-  length-takes-none f n = by _ (eqb n (size g b f))
-    where
-      by : (ps : List Step) (s : Bool) → cond s (plan [] 0) (plan ps 0) .taken ≤ length (free g b)
-      by ps true = omega arith
-      by ps false = omega arith
+length-takes : (g : Layout) (b : List ℕ) (f n : ℕ) → lengthPlan g b f n .taken ≡ 0
+unfolding lengthPlan plan
+length-takes g b f n = by _ (eqb n (size g b f))
+  where
+    by : (ps : List Step) (s : Bool) → cond s (plan [] 0) (plan ps 0) .taken ≡ 0
+    by ps true = refl
+    by ps false = refl
 
 -- ---- No refusal 8
 
@@ -93,40 +95,36 @@ other : (x : Fault) → number x < 8 → x ≢ PlanLength
 unfolding number
 other x lt e = omega (arith, ap number e)
 
--- so a call that plans does not refuse 8 where its pairs are no more than the board's words, once no other fault was found
-holds-plan : (b slice : List ℕ) (faults : Faults) (ss : List Store) → All (λ t. t .0 ≢ PlanLength) faults → 2 * length b ≤ length slice → (All Passed faults → length ss ≤ length b)
+-- so a call that plans does not refuse 8 where its slice holds m pairs and it has no more, once no other fault was found
+holds-plan : (m : ℕ) (slice : List ℕ) (faults : Faults) (ss : List Store) → All (λ t. t .0 ≢ PlanLength) faults → 2 * m ≤ length slice → (All Passed faults → length ss ≤ m)
     → planned faults ss slice .answer ≢ Refused PlanLength
 unfolding planned
-holds-plan b slice faults ss others long le = not-last faults PlanLength (ltb (length slice) (2 * length ss)) (length ss) others (λ h. le-ltb (length slice) (2 * length ss) (omega (arith, le h)))
+holds-plan m slice faults ss others long le = not-last faults PlanLength (ltb (length slice) (2 * length ss)) (length ss) others (λ h. le-ltb (length slice) (2 * length ss) (omega (arith, le h)))
 
 module _ (g : Layout) (b : List ℕ) (f : ℕ) where
   file-others : All (λ t. t .0 ≢ PlanLength) (fileFaults g b f)
   unfolding fileFaults boardFaults wordCountFault number All
   file-others = (other WordCount (omega arith), (other Trailer (omega arith), (other Damaged (omega arith), (other FileNumber (omega arith), tt))))
 
-  -- past these faults the board is accepted
-  file-accepts : All Passed (fileFaults g b f) → T (accepted g b)
-  unfolding fileFaults checkAnswer
-  file-accepts h = check-accepts g b (answered-passed (boardFaults g b) 0 (all-left Passed (boardFaults g b) ((FileNumber, leb (files g) f) ∷ []) h))
+  write-others : (o : ℕ) (new : List ℕ) (p : Plan) → All (λ t. t .0 ≢ PlanLength) (writeFaults g b f o new p)
+  unfolding writeFaults number All
+  write-others o new p = all-append (λ t. t .0 ≢ PlanLength) (fileFaults g b f) _ file-others (other End (omega arith), (other FreeBlocks (omega arith), tt))
 
 room-for : (g : Layout) → Roomy g → (b : List ℕ) (fresh : ℕ → ℕ) (c : Change) (slice : List ℕ) → 2 * length b ≤ length slice → calledFrom g fresh b c slice .answer ≢ Refused PlanLength
-unfolding calledFrom writeFrom setLength writeFaults number All
+unfolding calledFrom writeFrom setLength number All
 room-for g r b fresh (writing f o new) slice long =
     let p : Plan = writePlan g fresh b f o (new .values) in
-    let own : Faults = (End, ltb (greatest g) (o + length (new .values))) ∷ (FreeBlocks, ltb (length (free g b)) (p .taken)) ∷ [] in
-    holds-plan b slice (fileFaults g b f ++ own) (pairs p)
-    (all-append (λ t. t .0 ≢ PlanLength) (fileFaults g b f) own (file-others g b f) (other End (omega arith), (other FreeBlocks (omega arith), tt))) long (λ h.
-    let ok : T (accepted g b) = file-accepts g b f (all-left Passed (fileFaults g b f) own h) in
-    let asked = write-passed (r .fit) ok f o new p h in
-    holds g r b ok p (write-bounded g (r .fit) fresh b f (facts g (r .fit) b ok .low f (asked .0 .on .file)) o (new .values)) (asked .1))
+    holds-plan (length b) slice (writeFaults g b f o (new .values) p) (pairs p) (write-others g b f o (new .values) p) long (λ h.
+    let ok : T (accepted g b) = write-accepts g b f o (new .values) p h in
+    holds g r b ok p (write-bounded g (r .fit) fresh b f (write-low g (r .fit) b f o (new .values) p h) o (new .values)) (write-passed (r .fit) ok f o new p h .1))
 room-for g r b fresh (lengthTo f n) slice long =
     let p : Plan = lengthPlan g b f n in
     let own : Faults = (End, ltb (greatest g) n) ∷ [] in
-    holds-plan b slice (fileFaults g b f ++ own) (pairs p)
+    holds-plan (length b) slice (fileFaults g b f ++ own) (pairs p)
     (all-append (λ t. t .0 ≢ PlanLength) (fileFaults g b f) own (file-others g b f) (other End (omega arith), tt)) long (λ h.
     let board : All Passed (fileFaults g b f) = all-left Passed (fileFaults g b f) own h in
     let ok : T (accepted g b) = file-accepts g b f board in
-    holds g r b ok p (length-bounded g (words-pos g (r .fit)) b f (facts g (r .fit) b ok .low f (file-passed g b f board)) n) (length-takes-none g r b ok f n))
+    holds g r b ok p (length-bounded g (words-pos g (r .fit)) b f (facts g (r .fit) b ok .low f (file-passed g b f board)) n) (omega (arith, length-takes g b f n)))
 
 pub room-rule : RoomRule
 room-rule k b fresh c slice long = room-for (layoutOf k) (roomy k) b fresh c slice (omega arith)
@@ -141,4 +139,11 @@ pub format-room-rule : FormatRoomRule
 unfolding format wordCountFault number All
 format-room-rule k b slice long =
     let g : Layout = layoutOf k in
-    holds-plan b slice (wordCountFault g b) (pairs (formatPlan g b)) (other WordCount (omega arith), tt) (omega arith) (λ h. format-holds g (fits k) b (rw (not-false (wordCountSound g b) (h .0)) tt))
+    holds-plan (length b) slice (wordCountFault g b) (pairs (formatPlan g b)) (other WordCount (omega arith), tt) (omega arith) (λ h. format-holds g (fits k) b (rw (not-false (wordCountSound g b) (h .0)) tt))
+
+pub write-room-rule : WriteRoomRule
+unfolding writeFrom
+write-room-rule b fresh f o new slice within long =
+    let p : Plan = writePlan house fresh b f o (new .values) in
+    holds-plan (sharpStores (length (new .values)) + 3) slice (writeFaults house b f o (new .values) p) (pairs p) (write-others house b f o (new .values) p) long
+    (done-pairs b fresh f o (new .values) within)

@@ -6,29 +6,31 @@ use Prim.Native.Nat.{ℕ, zero, suc, _+_, _-_, _*_, _/_, _≤_, _<_}
 use native.Mathlib.Omega.{arith}
 use native.Mathlib.Nat.{mul-le-mul-left, div-mul-le-self, le-div-iff-mul-le, mul-pos}
 use lib.ListN.{length, length-append}
-use lib.Dec.{T}
+use lib.Dec.{T, leb}
 use Rattle.model.specs.Lists.{sum, filter, consIf, concat}
-use Rattle.model.specs.Words.{Bytes}
-use Rattle.model.specs.Layout.{files, house}
+use Rattle.model.specs.declared.Fault.the-variants.{FileNumber}
+use Rattle.model.specs.Layout.{Layout, Fits, files, house}
 use Rattle.model.specs.Tree.{span}
-use Rattle.model.specs.Board.{size, accepted}
+use Rattle.model.specs.Board.{size, inodeOf, accepted}
 use Rattle.model.specs.Store.{Store, store, isBarrier, barrier, stores, fenced}
 use Rattle.model.specs.Plan.{Plan, pairs, planEpochs}
 use Rattle.model.specs.Fresh.{need}
 use Rattle.model.specs.Change.{writePlan}
-use Rattle.model.specs.Calls.{lowest, writeFaults, writeFrom, write}
+use Rattle.model.specs.Calls.{boardFaults, fileFaults, checkAnswer, lowest, writeFaults, writeFrom, write}
 use Rattle.model.proofs.Cases.{either}
 use Rattle.model.proofs.Sums.{sum-mono}
-use Rattle.model.proofs.Perform.{stores-append}
+use Rattle.model.proofs.Perform.{All, stores-append}
+use Rattle.model.proofs.Addresses.{all-left}
 use Rattle.model.proofs.Accepting.{facts}
-use Rattle.model.proofs.Epochs.{planned-either}
-use Rattle.model.proofs.Rules.{write-passed}
+use Rattle.model.proofs.Refusals.{check-accepts}
+use Rattle.model.proofs.Epochs.{Passed, answered-passed, planned-either}
+use Rattle.model.proofs.Rules.{file-passed}
 use Rattle.model.proofs.Formatted.{house-fits}
-use Rattle.bounds.specs.Bounds.{t, u, v, mostBlocks, mostStores, fewerStores, storeCount}
-use Rattle.bounds.specs.Claims.{StoresRule, CostRule}
+use Rattle.bounds.specs.Bounds.{t, u, v, mostBlocks, mostStores, sharpStores, storeCount}
+use Rattle.bounds.specs.Claims.{StoresRule, SharpRule}
 use Rattle.bounds.proofs.Stretches.{met, need-met}
-use Rattle.bounds.proofs.Stores.{cost}
-use Rattle.bounds.proofs.Sharp.{write-light}
+use Rattle.bounds.proofs.Stores.{Low, extra, cost, pairs-most, write-bounded}
+use Rattle.bounds.proofs.Writes.{write-light}
 
 -- ---- The house's figures
 
@@ -74,16 +76,9 @@ met-v l = over (met-over 8 512 l (omega arith) (omega arith)) (met-mono 8 (met 5
     over h k = omega arith
 
 -- what written bytes take in a tree of height 3 at most
-house-need : (h o l : ℕ) → 0 < l → h ≤ 3 → need 8 h o l ≤ t l + u l + v l + 1
+house-need : (h o l : ℕ) → h ≤ 3 → need 8 h o l ≤ t l + u l + v l + 1
 unfolding sum span
-house-need h o l some low = omega (
-  arith,
-  need-met 8 (omega arith) h o l some,
-  sum-mono (λ d. met (span 8 d) l) h 3 low,
-  met-t l,
-  met-u l,
-  met-v l,
-)
+house-need h o l low = omega (arith, need-met 8 (omega arith) h o l, sum-mono (λ d. met (span 8 d) l) h 3 low, met-t l, met-u l, met-v l)
 
 -- ---- How many stores a write may cost
 
@@ -112,30 +107,51 @@ fenced-stores (e ∷ d ∷ es) = omega (
   length-append e (concat (d ∷ es)),
 )
 
-module _ (b : List ℕ) (ok : T (accepted house b)) (fresh : ℕ → ℕ) (f o : ℕ) (new : Bytes) (some : 1 ≤ length (new .values)) (within : o ≤ size house b f) where
+-- past the faults of a file the board is accepted
+pub file-accepts : (g : Layout) (b : List ℕ) (f : ℕ) → All Passed (fileFaults g b f) → T (accepted g b)
+unfolding fileFaults checkAnswer
+file-accepts g b f h = check-accepts g b (answered-passed (boardFaults g b) 0 (all-left Passed (boardFaults g b) ((FileNumber, leb (files g) f) ∷ []) h))
+
+pub write-accepts : (g : Layout) (b : List ℕ) (f o : ℕ) (new : List ℕ) (p : Plan) → All Passed (writeFaults g b f o new p) → T (accepted g b)
+unfolding writeFaults
+write-accepts g b f o new p h = file-accepts g b f (all-left Passed (fileFaults g b f) _ h)
+
+-- so once no fault of a write was found its root is of a height that the board may have
+pub write-low : (g : Layout) → Fits g → (b : List ℕ) (f o : ℕ) (new : List ℕ) (p : Plan) → All Passed (writeFaults g b f o new p) → Low g (inodeOf g b f)
+unfolding writeFaults
+write-low g fit b f o new p h =
+    let board : All Passed (fileFaults g b f) = all-left Passed (fileFaults g b f) _ h in
+    facts g fit b (file-accepts g b f board) .low f (file-passed g b f board)
+
+module _ (b : List ℕ) (fresh : ℕ → ℕ) (f o : ℕ) (new : List ℕ) (within : o ≤ size house b f) where
   abbrev p : Plan
-  p = writePlan house fresh b f o (new .values)
+  p = writePlan house fresh b f o new
 
   abbrev l : ℕ
-  l = length (new .values)
+  l = length new
 
-  done-stores : f < files house → storeCount (pairs p) ≤ fewerStores l
-  unfolding storeCount pairs fewerStores mostBlocks cost
-  done-stores file =
-      let few : cost p ≤ 8 * (3 + (t l + u l + v l + 1 + 1)) + 2 =
-      write-light house house-fits fresh b f (facts house house-fits b ok .low f file) o within (new .values) (t l + u l + v l + 1) (λ h o′ low. house-need h o′ l some low) in
-      omega (arith, fenced-stores (planEpochs (p .steps)))
+  module _ (passed : All Passed (writeFaults house b f o new p)) where
+    few : cost p ≤ sharpStores l
+    unfolding sharpStores mostBlocks
+    few = omega (arith, write-light house house-fits fresh b f (write-low house house-fits b f o new p passed) o within new (t l + u l + v l + 1) (λ h o′ low. house-need h o′ l low))
 
-pub cost-rule : CostRule
+    done-stores : storeCount (pairs p) ≤ sharpStores l
+    unfolding storeCount pairs cost
+    done-stores = omega (arith, few, fenced-stores (planEpochs (p .steps)))
+
+    pub done-pairs : length (pairs p) ≤ sharpStores l + 3
+    done-pairs = omega (arith, few, pairs-most 8 (extra house) p (write-bounded house house-fits fresh b f (write-low house house-fits b f o new p passed) o new))
+
+pub sharp-rule : SharpRule
 unfolding writeFrom storeCount stores filter
-cost-rule b ok fresh f o new slice some within =
+sharp-rule b fresh f o new slice within =
     let p : Plan = writePlan house fresh b f o (new .values) in
     elim (planned-either (writeFaults house b f o (new .values) p) (pairs p) slice) [
-      | inl d ↦ rw (d .plans) (done-stores b ok fresh f o new some within (write-passed house-fits ok f o new p (d .passed) .0 .on .file))
-      | inr r ↦ rw (r .plans) (omega arith)
+      | inl d ↦ record { counts = rw (d .plans) (done-stores b fresh f o (new .values) within (d .passed)); pairs = rw (d .plans) (done-pairs b fresh f o (new .values) within (d .passed)) }
+      | inr r ↦ record { counts = rw (r .plans) (omega arith); pairs = rw (r .plans) (omega arith) }
     ]
 
 -- 30 to spare
 pub stores-rule : StoresRule
-unfolding write mostStores fewerStores
-stores-rule b ok f o new slice some within = omega (arith, cost-rule b ok (lowest house b) f o new slice some within)
+unfolding write mostStores sharpStores
+stores-rule b f o new slice within = omega (arith, sharp-rule b (lowest house b) f o new slice within .counts)

@@ -20,7 +20,7 @@ use Rattle.model.specs.Plan.{Step, step, stepEpochs, planEpochs, Plan, plan, pa
 use Rattle.model.specs.Fresh.{Page, part, partLength, stored, dataPage}
 use Rattle.model.specs.InPlace.{tailBefore, tailWords, hooked, inPlace}
 use Rattle.model.specs.Change.{levels, growing, grownRoot, growthTo, growth, grownInode, singleBlock, singleWord, isTail, emptyTailTo, emptyTail, tail, shadowInside, shadowWithLength, chosenWay, grownPlan, somePlan, writePlan, cleared, lengthPlan}
-use Rattle.model.proofs.Cases.{split, length-joined}
+use Rattle.model.proofs.Cases.{split, either, length-joined}
 use Rattle.model.proofs.Sums.{sum-le, sum-zero, sum-grow}
 use Rattle.model.proofs.Spans.{span-pos, least-within}
 use Rattle.model.proofs.Shown.{words-pos}
@@ -28,13 +28,9 @@ use Rattle.model.proofs.Perform.{length-stored, address-place}
 use Rattle.model.proofs.Splice.{length-part}
 use Rattle.model.proofs.Tailed.{part-nothing}
 use Rattle.model.proofs.Steps.{steps-stores}
+use Rattle.bounds.proofs.Stretches.{ones}
 
 -- ---- In place
-
-pub ones : (m : ℕ) → sum m (λ j. 1) ≡ m
-unfolding sum
-ones zero = refl
-ones (suc m) = omega (arith, ones m)
 
 choose-most : (n : ℕ) (s : Store) → length (choose n [] (s ∷ [])) ≤ 1
 unfolding choose
@@ -107,7 +103,7 @@ module _ (W : ℕ) (b : List ℕ) (hook : ℕ → ℕ → ℕ → ℕ) where
   ]
 
   -- W data words at most, and W - 1 pointers on each level
-  pub in-place-most : 0 < W → (h k n : ℕ) (new : List ℕ) (c a : ℕ) → length (inPlace W b hook h k n new c a) ≤ W + (W - 1) * h
+  in-place-most : 0 < W → (h k n : ℕ) (new : List ℕ) (c a : ℕ) → length (inPlace W b hook h k n new c a) ≤ W + (W - 1) * h
   unfolding inPlace
   in-place-most pos zero k zero new c a = omega (arith, hooked-most zero new c a)
   in-place-most pos zero zero (suc n) new c a = omega arith
@@ -139,12 +135,9 @@ one-costs W k x ss a v c le = record { only = step ss a v; is = refl; hides = le
 pages-costs : (W k x : ℕ) (fresh : ℕ → ℕ) (ps : List Page) (ss : List Store) (a v : ℕ) → length ss ≤ x → Costs W k x (plan (step (stored W fresh ps k ++ ss) a v ∷ []) (k + length ps))
 pages-costs W k x fresh ps ss a v le = one-costs W k x (stored W fresh ps k ++ ss) a v (k + length ps) (omega (arith, length-append (stored W fresh ps k) ss, length-stored W fresh ps k))
 
-module _ (W k x : ℕ) (fresh : ℕ → ℕ) (ps : List Page) (a v : ℕ) where
-  alone-costs : Costs W k x (plan (step (stored W fresh ps k) a v ∷ []) (k + length ps))
-  alone-costs = one-costs W k x (stored W fresh ps k) a v (k + length ps) (omega (arith, length-stored W fresh ps k))
-
-  counted-costs : (c : ℕ) → c ≡ k + length ps → Costs W k x (plan (step (stored W fresh ps k) a v ∷ []) c)
-  counted-costs c e = one-costs W k x (stored W fresh ps k) a v c (rw e (omega (arith, length-stored W fresh ps k)))
+-- pages alone
+alone-costs : (W k x : ℕ) (fresh : ℕ → ℕ) (ps : List Page) (a v c : ℕ) → c ≡ k + length ps → Costs W k x (plan (step (stored W fresh ps k) a v ∷ []) c)
+alone-costs W k x fresh ps a v c e = one-costs W k x (stored W fresh ps k) a v c (rw e (omega (arith, length-stored W fresh ps k)))
 
 -- the ways after growth but the tail of a file that is not empty
 module _ (g : Layout) (fresh : ℕ → ℕ) (b : List ℕ) (n : Inode) (o : ℕ) (new : List ℕ) (k x : ℕ) where
@@ -154,15 +147,24 @@ module _ (g : Layout) (fresh : ℕ → ℕ) (b : List ℕ) (n : Inode) (o : ℕ)
 
   pub inside-costs : Costs (g .words) k x (shadowInside g fresh b n o new k)
   unfolding shadowInside
-  inside-costs = alone-costs (g .words) k x fresh _ _ _
+  inside-costs = alone-costs (g .words) k x fresh _ _ _ _ refl
 
   pub leaf-costs : Costs (g .words) k x (shadowWithLength g fresh b n o new k)
   unfolding shadowWithLength
-  leaf-costs = counted-costs (g .words) k x fresh _ _ _ _ (simp length-append (omega arith))
+  leaf-costs = alone-costs (g .words) k x fresh _ _ _ _ (simp length-append (omega arith))
 
-pub single-costs : (g : Layout) (b : List ℕ) (k o : ℕ) (new : List ℕ) (x : ℕ) → Costs (g .words) 0 x (singleWord g b k o new)
+single-costs : (g : Layout) (b : List ℕ) (k o : ℕ) (new : List ℕ) (x : ℕ) → Costs (g .words) 0 x (singleWord g b k o new)
 unfolding singleWord
 single-costs g b k o new x = one-costs (g .words) 0 x [] _ _ 0 (omega arith)
+
+-- what is so of each of ways 4 to 6 is so of the one that is chosen
+pub by-ways : (g : Layout) (fresh : ℕ → ℕ) (b : List ℕ) (n : Inode) (o : ℕ) (new : List ℕ) (k : ℕ) (P : Plan → Type 0) → P (tail g fresh b n (n .size) o new k)
+    → (isTail g b n o ≡ false → P (shadowInside g fresh b n o new k) × P (shadowWithLength g fresh b n o new k)) → P (chosenWay g fresh b n o new k)
+unfolding chosenWay
+by-ways g fresh b n o new k P end shadows = elim (either (isTail g b n o)) [
+  | inl e ↦ rw e end
+  | inr e ↦ elim (either (leb (o + length new) (n .size))) [ inl u ↦ rw (e, u) (shadows e .0) | inr u ↦ rw (e, u) (shadows e .1) ]
+]
 
 -- the root of an inode is of a height that its board may have
 abbrev pub Low : Layout → Inode → Type 0
@@ -191,13 +193,7 @@ module _ (g : Layout) (pos : 0 < g .words) where
     tail-way (suc s) e = pages-costs (g .words) k (extra g) fresh _ _ _ _ (in-place-extra b _ (n .root % g .words) (n .root / g .words) (suc s) new k (n .at) (low (omega arith)))
 
     way-costs : Way (chosenWay g fresh b n o new k)
-    unfolding chosenWay
-    way-costs = by (isTail g b n o) (leb (o + length new) (n .size))
-      where
-        by : (t u : Bool) → Way (cond t (tail g fresh b n (n .size) o new k) (cond u (shadowInside g fresh b n o new k) (shadowWithLength g fresh b n o new k)))
-        by true u = tail-way (n .size) refl
-        by false true = inside-costs g fresh b n o new k (extra g)
-        by false false = leaf-costs g fresh b n o new k (extra g)
+    way-costs = by-ways g fresh b n o new k Way (tail-way (n .size) refl) (λ e. (inside-costs g fresh b n o new k (extra g), leaf-costs g fresh b n o new k (extra g)))
 
 -- ---- The stores and the pairs of a plan
 
@@ -229,9 +225,10 @@ pub record Bounded (W x : ℕ) (p : Plan) : Type 0 where
   pub all : cost p ≤ W * p .taken + x + 2
   pub few : length (p .steps) ≤ 2
 
-pub pairs-most : (W x : ℕ) (p : Plan) → Bounded W x p → length (pairs p) ≤ W * p .taken + x + 5
+-- so three barriers at most
+pub pairs-most : (W x : ℕ) (p : Plan) → Bounded W x p → length (pairs p) ≤ cost p + 3
 unfolding pairs cost
-pairs-most W x p k = omega (arith, k .all, k .few, fenced-length (planEpochs (p .steps)), epochs-most (p .steps))
+pairs-most W x p k = omega (arith, k .few, fenced-length (planEpochs (p .steps)), epochs-most (p .steps))
 
 module _ (W x : ℕ) where
   none-bounded : Bounded W x (plan [] 0)

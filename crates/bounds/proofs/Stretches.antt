@@ -4,7 +4,7 @@ use mathlib.Core.Path.{_≡_, refl, sym, ap, _∙_}
 use mathlib.Core.Logic.{inl, inr}
 use Prim.Native.Nat.{ℕ, zero, suc, _+_, _-_, _*_, _/_, _^_, _≤_, _<_, min}
 use native.Mathlib.Omega.{arith}
-use native.Mathlib.Nat.{pow-zero, pow-succ', one-mul, mul-le-mul-right, div-mul-le-self, lt-div-mul-add, le-div-iff-mul-le}
+use native.Mathlib.Nat.{mul-zero, mul-add, pow-zero, pow-succ', one-mul, mul-le-mul-right, div-mul-le-self, lt-div-mul-add, le-div-iff-mul-le}
 use Rattle.model.specs.Lists.{sum}
 use Rattle.model.specs.Tree.{span}
 use Rattle.model.specs.Fresh.{partLength, need}
@@ -33,6 +33,16 @@ sum-reversed (suc m) f =
     let first : f (suc m - 1) ≡ f m = ap f (omega arith) in
     let rest : sum m (λ i. f (suc m - suc (suc i))) ≡ sum m (λ i. f (m - suc i)) = sum-cong m _ _ (λ i l. ap f (omega arith)) in
     omega (arith, sum-first m (λ e. f (suc m - suc e)), first, rest, sum-reversed m f)
+
+pub sum-times : (w m : ℕ) (f : ℕ → ℕ) → sum m (λ j. w * f j) ≡ w * sum m f
+unfolding sum
+sum-times w zero f = sym (mul-zero w)
+sum-times w (suc m) f = omega (arith, sum-times w m f, mul-add w (sum m f) (f m))
+
+pub ones : (m : ℕ) → sum m (λ j. 1) ≡ m
+unfolding sum
+ones zero = refl
+ones (suc m) = omega (arith, ones m)
 
 -- ---- Stretches. With p * s ≤ o and o + l ≤ q * s, l bytes at o lie in q - p stretches of s bytes
 
@@ -78,7 +88,7 @@ beside : (p q a k x y : ℕ) → x ≤ min q a - p → y ≤ min q (a + k) - a -
 beside p q a k x y u v = adds p a x y (min q a) (min q (a + k)) (omega arith) (omega arith) u v
 
 -- any two such p and q bound x: then x is at most *floor((l + s - 2) / s) + 1*
-abbrev pub Within : ℕ → ℕ → ℕ → ℕ → Type 0
+abbrev Within : ℕ → ℕ → ℕ → ℕ → Type 0
 Within s o l x = (p q : ℕ) → p * s ≤ o → o + l ≤ q * s → x ≤ q - p
 
 -- the most stretches of s bytes that l bytes meet
@@ -90,7 +100,7 @@ quotients a c y s o l e h k some two =
     let h′ : (c + y) * s ≤ o + l - 1 = rw e at h in
     omega arith
 
-pub met-most : (s o l x : ℕ) → 2 ≤ s → 0 < l → Within s o l x → x ≤ met s l
+met-most : (s o l x : ℕ) → 2 ≤ s → 0 < l → Within s o l x → x ≤ met s l
 unfolding met
 met-most s o l x two some within =
     let pos : 0 < s = omega arith in
@@ -185,12 +195,15 @@ module _ (W : ℕ) where
       two (suc d) = omega (arith, two d, mul-le-mul-right (span W d) pos)
 
   -- so it takes no more than the most trees of each height below its own that the bytes meet, and one for its top
-  pub need-met : 0 < W → (h o l : ℕ) → 0 < l → need W h o l ≤ 1 + sum h (λ d. met (span W d) l)
-  need-met pos h o l some = omega (
-    arith,
-    need-under h o l,
-    sum-first h (λ e. under e h o l),
-    under-top h o l,
-    sum-le h (λ e. under (suc e) h o l) (λ e. met (span W (h - suc e)) l) (λ e lt. under-met pos (h - suc e) (suc e) h (omega arith) o l some),
-    sum-reversed h (λ d. met (span W d) l),
-  )
+  pub need-met : 0 < W → (h o l : ℕ) → need W h o l ≤ 1 + sum h (λ d. met (span W d) l)
+  need-met pos h o l = elim (split l 0) [
+    | inl z ↦ let e : l ≡ 0 = omega arith in rw (e, need-none W h o) (omega arith)
+    | inr some ↦ omega (
+      arith,
+      need-under h o l,
+      sum-first h (λ e. under e h o l),
+      under-top h o l,
+      sum-le h (λ e. under (suc e) h o l) (λ e. met (span W (h - suc e)) l) (λ e lt. under-met pos (h - suc e) (suc e) h (omega arith) o l some),
+      sum-reversed h (λ d. met (span W d) l),
+    )
+  ]

@@ -24,9 +24,9 @@ mostBlocks l = t l + u l + v l + 5
 unfoldable pub mostStores : ℕ → ℕ
 mostStores l = 8 * mostBlocks l + 32
 
--- eight for each of those blocks and two commits: no document asks for so few
-unfoldable pub fewerStores : ℕ → ℕ
-fewerStores l = 8 * mostBlocks l + 2
+-- the sharper figure, which no document asks for: eight for each of those blocks, and two commits
+unfoldable pub sharpStores : ℕ → ℕ
+sharpStores l = 8 * mostBlocks l + 2
 
 -- how many *stores* some pairs have, *barriers not counted*
 unfoldable pub storeCount : List Store → ℕ

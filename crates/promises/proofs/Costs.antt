@@ -1,14 +1,15 @@
 -- The promises about stores and plan slices, from the contracts and the laws of bounds.
 use mathlib.Core.Path.{sym, _∙_}
-use Rattle.model.specs.Layout.{layoutOf}
+use Rattle.model.specs.Layout.{house, layoutOf}
 use Rattle.model.specs.Calls.{lowest, write}
 use Rattle.model.specs.Cut.{writing, lengthTo, calledFrom}
-use Rattle.bounds.proofs.Rules.{stores-rule}
+use Rattle.bounds.proofs.Rules.{stores-rule, sharp-rule}
 use Rattle.bounds.proofs.Room.{room-rule, format-room-rule}
 use Rattle.promises.specs.Promises.{StoresPromise, RoomPromise}
 
 pub stores-kept : StoresPromise
-stores-kept b ok f o bytes slice r slice′ e some within = rw (e .answer, e .plan) (stores-rule b ok f o bytes slice some within)
+unfolding write
+stores-kept b f o bytes slice r slice′ e within = rw (e .answer, e .plan) (stores-rule b f o bytes slice within, sharp-rule b (lowest house b) f o bytes slice within)
 
 pub room-kept : RoomPromise
 unfolding calledFrom write

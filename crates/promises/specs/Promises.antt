@@ -20,6 +20,7 @@ use Rattle.model.specs.Calls.{checkAnswer, write, setLength, format}
 use Rattle.model.specs.Cut.{writing, lengthTo, planOf, after, Cut, Names, standing, lastArrived}
 use Rattle.model.specs.Claims.{CutSafe, Altered, Empty}
 use Rattle.bounds.specs.Bounds.{mostStores, storeCount}
+use Rattle.bounds.specs.Claims.{Sharp}
 use Rattle.plans.specs.Laying.{PlanResult}
 use Rattle.performing.specs.Results.{PerformResult}
 
@@ -74,10 +75,10 @@ abbrev pub FormatPromise : Type 0
 FormatPromise = (k : Kind) → let g : Layout = layoutOf k in (b : List ℕ) → T (wordCountSound g b) → (slice : List ℕ) (r : Answer) (slice′ : List ℕ)
     → PlanResult (format g b slice) r slice′ → Formats g b r slice′
 
--- `write`, N12 of document 02: the plan that it left has at most so many stores
+-- `write`, N12 of document 02: the plan that it left has at most so many stores; and 30 fewer, with three barriers
 abbrev pub StoresPromise : Type 0
-StoresPromise = (b : List ℕ) → T (accepted house b) → (f o : ℕ) (bytes : Bytes) (slice : List ℕ) (r : Answer) (slice′ : List ℕ) → PlanResult (write house b f o (bytes .values) slice) r slice′
-    → 1 ≤ length (bytes .values) → o ≤ size house b f → storeCount (planLeft r slice′) ≤ mostStores (length (bytes .values))
+StoresPromise = (b : List ℕ) (f o : ℕ) (bytes : Bytes) (slice : List ℕ) (r : Answer) (slice′ : List ℕ) → PlanResult (write house b f o (bytes .values) slice) r slice′ → o ≤ size house b f
+    → (storeCount (planLeft r slice′) ≤ mostStores (length (bytes .values))) × Sharp (record { answer = r; slice = slice′ }) (length (bytes .values))
 
 -- with a plan slice of twice the board's words no call that plans was refused 8: write and length change, and format
 abbrev pub RoomPromise : Type 0

@@ -6,7 +6,7 @@ use mathlib.Core.Bool.{Bool, true, false, cond}
 use mathlib.Core.List.{List, [], _∷_}
 use Prim.Native.Nat.{ℕ, zero, suc, _+_, _-_, _*_, _/_, _%_, _≤_, _<_}
 use native.Mathlib.Omega.{arith}
-use native.Mathlib.Nat.{mul-le-mul-left, mul-zero, mul-add}
+use native.Mathlib.Nat.{mul-le-mul-left, mul-zero}
 use lib.ListN.{length, length-append}
 use lib.Dec.{leb}
 use Rattle.model.specs.declared.Inode.{Inode}
@@ -30,13 +30,9 @@ use Rattle.model.proofs.Splice.{length-part}
 use Rattle.model.proofs.Shown.{words-pos}
 use Rattle.model.proofs.Tailed.{tailNeed-dead, length-tail}
 use Rattle.model.proofs.WayNeeds.{empty-tail-needs}
-use Rattle.bounds.proofs.Stores.{ones, words-most, in-place-none, in-place-dead, Costs, empty-costs, inside-costs, leaf-costs, Low, cost, steps-cost, growth-either, grown-low}
+use Rattle.bounds.proofs.Stretches.{sum-times, ones}
+use Rattle.bounds.proofs.Stores.{words-most, in-place-none, in-place-dead, Costs, empty-costs, inside-costs, leaf-costs, by-ways, Low, cost, steps-cost, growth-either, grown-low}
 use Rattle.bounds.proofs.Taken.{tail-most, not-tail, inside-takes, leaf-takes, growth-takes}
-
-sum-times : (w m : ℕ) (f : ℕ → ℕ) → sum m (λ j. w * f j) ≡ w * sum m f
-unfolding sum
-sum-times w zero f = sym (mul-zero w)
-sum-times w (suc m) f = omega (arith, sum-times w m f, mul-add w (sum m f) (f m))
 
 -- ---- A tail: in each block that stays at most W words are stored, which a fresh one would have too
 
@@ -145,15 +141,11 @@ module _ (g : Layout) (pos : 0 < g .words) (fresh : ℕ → ℕ) (new : List ℕ
       }
 
   way-light : Fair (chosenWay g fresh b n o new k)
-  unfolding chosenWay
-  way-light = by (isTail g b n o) refl (leb (o + length new) (n .size))
-    where
-      by : (t : Bool) → isTail g b n o ≡ t → (u : Bool) → Fair (cond t (tail g fresh b n (n .size) o new k) (cond u (shadowInside g fresh b n o new k) (shadowWithLength g fresh b n o new k)))
-      by true e u = tail-light (n .size) refl
-      by false e true = costs-light (g .words) k 0 (X + 1) _ (inside-costs g fresh b n o new k 0)
-          (omega (arith, mul-le-mul-left (g .words) (inside-takes g pos fresh new X most b n low o within k (not-tail g b n o e))))
-      by false e false = costs-light (g .words) k 0 (X + 1) _ (leaf-costs g fresh b n o new k 0)
-          (omega (arith, mul-le-mul-left (g .words) (leaf-takes g pos fresh new X most b n low o within k (not-tail g b n o e))))
+  way-light = by-ways g fresh b n o new k Fair (tail-light (n .size) refl) (λ e.
+      let some : 0 < n .size = not-tail g b n o e in (
+        costs-light (g .words) k 0 (X + 1) _ (inside-costs g fresh b n o new k 0) (omega (arith, mul-le-mul-left (g .words) (inside-takes g pos fresh new X most b n low o within k some))),
+        costs-light (g .words) k 0 (X + 1) _ (leaf-costs g fresh b n o new k 0) (omega (arith, mul-le-mul-left (g .words) (leaf-takes g pos fresh new X most b n low o within k some))),
+      ))
 
 -- ---- The write
 
