@@ -145,5 +145,5 @@ pub write-room-rule : WriteRoomRule
 unfolding writeFrom
 write-room-rule b fresh f o new slice within long =
     let p : Plan = writePlan house fresh b f o (new .values) in
-    holds-plan (sharpStores (length (new .values)) + 3) slice (writeFaults house b f o (new .values) p) (pairs p) (write-others house b f o (new .values) p) long
+    holds-plan (sharpStores (length (new .values)) + 3) slice (writeFaults house b f o (new .values) p) (pairs p) (write-others house b f o (new .values) p) (omega arith)
     (done-pairs b fresh f o (new .values) within)

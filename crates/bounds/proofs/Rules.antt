@@ -131,16 +131,16 @@ module _ (b : List ℕ) (fresh : ℕ → ℕ) (f o : ℕ) (new : List ℕ) (with
   l = length new
 
   module _ (passed : All Passed (writeFaults house b f o new p)) where
-    few : cost p ≤ sharpStores l
+    few-stores : cost p ≤ sharpStores l
     unfolding sharpStores mostBlocks
-    few = omega (arith, write-light house house-fits fresh b f (write-low house house-fits b f o new p passed) o within new (t l + u l + v l + 1) (λ h o′ low. house-need h o′ l low))
+    few-stores = omega (arith, write-light house house-fits fresh b f (write-low house house-fits b f o new p passed) o within new (t l + u l + v l + 1) (λ h o′ low. house-need h o′ l low))
 
     done-stores : storeCount (pairs p) ≤ sharpStores l
     unfolding storeCount pairs cost
-    done-stores = omega (arith, few, fenced-stores (planEpochs (p .steps)))
+    done-stores = omega (arith, few-stores, fenced-stores (planEpochs (p .steps)))
 
     pub done-pairs : length (pairs p) ≤ sharpStores l + 3
-    done-pairs = omega (arith, few, pairs-most 8 (extra house) p (write-bounded house house-fits fresh b f (write-low house house-fits b f o new p passed) o new))
+    done-pairs = omega (arith, few-stores, pairs-most 8 (extra house) p (write-bounded house house-fits fresh b f (write-low house house-fits b f o new p passed) o new))
 
 pub sharp-rule : SharpRule
 unfolding writeFrom storeCount stores filter
