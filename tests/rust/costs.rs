@@ -25,6 +25,9 @@ const FIGURES: [(u64, u64); 9] = [
 /// The sharp figure is so much less.
 const SHARPER: u64 = 30;
 
+/// A plan has no more.
+const BARRIERS: u64 = 3;
+
 /// First and last count of bytes: t, u and v are 1, then 2; then t is above 2, then u as well, then v as well.
 const BANDS: [(&str, u64, u64); 5] = [
     ("1 byte", 1, 1),
@@ -131,6 +134,7 @@ struct Held {
     count: u64,
     size: u64,
     stores: u64,
+    pairs: u64,
 }
 
 impl Held {
@@ -138,14 +142,14 @@ impl Held {
     /// are in.
     fn of(board: &[u64], file: u64, (offset, count): (u64, usize), (pairs, plan): (u64, &[u64])) -> Held {
         let (_, size) = HOUSE.root_and_size(board, file);
-        Held { offset, count: count as u64, size, stores: document::store_count(plan, pairs) }
+        Held { offset, count: count as u64, size, stores: document::store_count(plan, pairs), pairs }
     }
 }
 
 impl Display for Held {
     fn fmt(&self, out: &mut Formatter) -> std::fmt::Result {
-        let Held { offset, count, size, stores } = self;
-        write!(out, "write of {count} bytes at {offset}, size {size}: {stores} stores")
+        let Held { offset, count, size, stores, pairs } = self;
+        write!(out, "write of {count} bytes at {offset}, size {size}: {stores} stores, {pairs} pairs")
     }
 }
 
@@ -172,6 +176,7 @@ impl Costs {
         let (most, sharp) = (document::most_stores(write.count), document::sharp_most_stores(write.count));
         assert!(write.stores <= most, "{write}, the bound is {most}");
         assert!(write.stores <= sharp, "{write}, the sharp bound is {sharp}");
+        assert!(write.pairs <= write.stores + BARRIERS, "{write}: more than {BARRIERS} barriers");
         let slack = sharp - write.stores;
         self.held += 1;
         if slack == 0 {
