@@ -34,10 +34,10 @@ use Rattle.model.proofs.Epochs.{Passed}
 use Rattle.model.proofs.Refusals.{not-refused}
 use Rattle.model.proofs.Rules.{file-passed, write-passed}
 use Rattle.model.proofs.Formatted.{format-pairs, fits}
-use Rattle.bounds.specs.Bounds.{sharpStores}
+use Rattle.bounds.specs.Bounds.{mostStores}
 use Rattle.bounds.specs.Claims.{RoomRule, FormatRoomRule, WriteRoomRule}
 use Rattle.bounds.proofs.Stores.{extra, Bounded, pairs-most, write-bounded, length-bounded}
-use Rattle.bounds.proofs.Rules.{file-accepts, write-accepts, write-low, done-pairs}
+use Rattle.bounds.proofs.Rules.{file-accepts, write-accepts, write-low, few-pairs}
 
 -- ---- How many pairs there are
 
@@ -143,7 +143,7 @@ format-room-rule k b slice long =
 
 pub write-room-rule : WriteRoomRule
 unfolding writeFrom
-write-room-rule b fresh f o new slice within long =
+write-room-rule b fresh f o new slice long =
     let p : Plan = writePlan house fresh b f o (new .values) in
-    holds-plan (sharpStores (length (new .values)) + 3) slice (writeFaults house b f o (new .values) p) (pairs p) (write-others house b f o (new .values) p) (omega arith)
-    (done-pairs b fresh f o (new .values) within)
+    holds-plan (mostStores (length (new .values))) slice (writeFaults house b f o (new .values) p) (pairs p) (write-others house b f o (new .values) p) (omega arith)
+    (few-pairs b fresh f o (new .values))

@@ -16,7 +16,8 @@ use Rattle.model.specs.Store.{Store, store, isBarrier, barrier, stores, fenced}
 use Rattle.model.specs.Plan.{Plan, pairs, planEpochs}
 use Rattle.model.specs.Fresh.{need}
 use Rattle.model.specs.Change.{writePlan}
-use Rattle.model.specs.Calls.{boardFaults, fileFaults, checkAnswer, lowest, writeFaults, writeFrom, write}
+use Rattle.model.specs.Cut.{planOf}
+use Rattle.model.specs.Calls.{Planned, boardFaults, fileFaults, checkAnswer, lowest, writeFaults, writeFrom, write}
 use Rattle.model.proofs.Cases.{either}
 use Rattle.model.proofs.Sums.{sum-mono}
 use Rattle.model.proofs.Perform.{All, stores-append}
@@ -27,10 +28,10 @@ use Rattle.model.proofs.Epochs.{Passed, answered-passed, planned-either}
 use Rattle.model.proofs.Rules.{file-passed}
 use Rattle.model.proofs.Formatted.{house-fits}
 use Rattle.bounds.specs.Bounds.{t, u, v, mostBlocks, mostStores, sharpStores, storeCount}
-use Rattle.bounds.specs.Claims.{StoresRule, SharpRule}
+use Rattle.bounds.specs.Claims.{StoresRule, PairsRule, SharpRule}
 use Rattle.bounds.proofs.Stretches.{met, need-met}
 use Rattle.bounds.proofs.Stores.{Low, extra, cost, pairs-most, write-bounded}
-use Rattle.bounds.proofs.Writes.{write-light}
+use Rattle.bounds.proofs.Writes.{write-light, write-more}
 
 -- ---- The house's figures
 
@@ -123,7 +124,7 @@ write-low g fit b f o new p h =
     let board : All Passed (fileFaults g b f) = all-left Passed (fileFaults g b f) _ h in
     facts g fit b (file-accepts g b f board) .low f (file-passed g b f board)
 
-module _ (b : List ℕ) (fresh : ℕ → ℕ) (f o : ℕ) (new : List ℕ) (within : o ≤ size house b f) where
+module _ (b : List ℕ) (fresh : ℕ → ℕ) (f o : ℕ) (new : List ℕ) where
   abbrev p : Plan
   p = writePlan house fresh b f o new
 
@@ -131,27 +132,46 @@ module _ (b : List ℕ) (fresh : ℕ → ℕ) (f o : ℕ) (new : List ℕ) (with
   l = length new
 
   module _ (passed : All Passed (writeFaults house b f o new p)) where
-    few-stores : cost p ≤ sharpStores l
+    low : Low house (inodeOf house b f)
+    low = write-low house house-fits b f o new p passed
+
+    -- within the size, and wherever it is: three blocks more
+    few-stores : o ≤ size house b f → cost p ≤ sharpStores l
     unfolding sharpStores mostBlocks
-    few-stores = omega (arith, write-light house house-fits fresh b f (write-low house house-fits b f o new p passed) o within new (t l + u l + v l + 1) (λ h o′ low. house-need h o′ l low))
+    few-stores within = omega (arith, write-light house house-fits fresh b f low o new (t l + u l + v l + 1) (λ h o′ le. house-need h o′ l le) within)
 
-    done-stores : storeCount (pairs p) ≤ sharpStores l
+    pub few-pairs : length (pairs p) ≤ mostStores l
+    unfolding mostStores mostBlocks
+    few-pairs = omega (
+      arith,
+      write-more house house-fits fresh b f low o new (t l + u l + v l + 1) (λ h o′ le. house-need h o′ l le),
+      pairs-most 8 (extra house) p (write-bounded house house-fits fresh b f low o new),
+    )
+
+    done-stores : o ≤ size house b f → storeCount (pairs p) ≤ sharpStores l
     unfolding storeCount pairs cost
-    done-stores = omega (arith, few-stores, fenced-stores (planEpochs (p .steps)))
-
-    pub done-pairs : length (pairs p) ≤ sharpStores l + 3
-    done-pairs = omega (arith, few-stores, pairs-most 8 (extra house) p (write-bounded house house-fits fresh b f (write-low house house-fits b f o new p passed) o new))
+    done-stores within = omega (arith, few-stores within, fenced-stores (planEpochs (p .steps)))
 
 pub sharp-rule : SharpRule
 unfolding writeFrom storeCount stores filter
 sharp-rule b fresh f o new slice within =
     let p : Plan = writePlan house fresh b f o (new .values) in
     elim (planned-either (writeFaults house b f o (new .values) p) (pairs p) slice) [
-      | inl d ↦ record { counts = rw (d .plans) (done-stores b fresh f o (new .values) within (d .passed)); pairs = rw (d .plans) (done-pairs b fresh f o (new .values) within (d .passed)) }
-      | inr r ↦ record { counts = rw (r .plans) (omega arith); pairs = rw (r .plans) (omega arith) }
+      | inl d ↦ rw (d .plans) (done-stores b fresh f o (new .values) (d .passed) (omega arith))
+      | inr r ↦ rw (r .plans) (omega arith)
     ]
 
--- 30 to spare
+pub pairs-rule : PairsRule
+unfolding writeFrom
+pairs-rule b fresh f o new slice =
+    let p : Plan = writePlan house fresh b f o (new .values) in
+    elim (planned-either (writeFaults house b f o (new .values) p) (pairs p) slice) [
+      | inl d ↦ rw (d .plans) (few-pairs b fresh f o (new .values) (d .passed))
+      | inr r ↦ rw (r .plans) (omega arith)
+    ]
+
 pub stores-rule : StoresRule
-unfolding write mostStores sharpStores
-stores-rule b f o new slice within = omega (arith, sharp-rule b (lowest house b) f o new slice within .counts)
+unfolding write storeCount
+stores-rule b f o new slice =
+    let p : Planned = writeFrom house b (lowest house b) f o (new .values) slice in
+    omega (arith, length-stores (planOf p), pairs-rule b (lowest house b) f o new slice)

@@ -8,6 +8,7 @@ use native.Mathlib.Omega.{arith}
 use native.Mathlib.Nat.{mul-le-mul-left, mul-le-mul-right, div-mul-le-self, lt-div-mul-add}
 use lib.ListN.{length, replicate, length-append}
 use lib.Dec.{leb, ltb, eqb}
+use borrow.Author.Tests.{leb-true}
 use Rattle.model.specs.declared.Inode.{Inode}
 use Rattle.model.specs.declared.WalkEnd.{WalkEnd}
 use Rattle.model.specs.declared.WalkEnd.the-variants.{Block, Hole}
@@ -159,11 +160,11 @@ single-costs g b k o new x = one-costs (g .words) 0 x [] _ _ 0 (omega arith)
 
 -- what is so of each of ways 4 to 6 is so of the one that is chosen
 pub by-ways : (g : Layout) (fresh : ℕ → ℕ) (b : List ℕ) (n : Inode) (o : ℕ) (new : List ℕ) (k : ℕ) (P : Plan → Type 0) → P (tail g fresh b n (n .size) o new k)
-    → (isTail g b n o ≡ false → P (shadowInside g fresh b n o new k) × P (shadowWithLength g fresh b n o new k)) → P (chosenWay g fresh b n o new k)
+    → (isTail g b n o ≡ false → (o + length new ≤ n .size → P (shadowInside g fresh b n o new k)) × P (shadowWithLength g fresh b n o new k)) → P (chosenWay g fresh b n o new k)
 unfolding chosenWay
 by-ways g fresh b n o new k P end shadows = elim (either (isTail g b n o)) [
   | inl e ↦ rw e end
-  | inr e ↦ elim (either (leb (o + length new) (n .size))) [ inl u ↦ rw (e, u) (shadows e .0) | inr u ↦ rw (e, u) (shadows e .1) ]
+  | inr e ↦ elim (either (leb (o + length new) (n .size))) [ inl u ↦ rw (e, u) (shadows e .0 (leb-true (o + length new) (n .size) u)) | inr u ↦ rw (e, u) (shadows e .1) ]
 ]
 
 -- the root of an inode is of a height that its board may have
@@ -193,7 +194,7 @@ module _ (g : Layout) (pos : 0 < g .words) where
     tail-way (suc s) e = pages-costs (g .words) k (extra g) fresh _ _ _ _ (in-place-extra b _ (n .root % g .words) (n .root / g .words) (suc s) new k (n .at) (low (omega arith)))
 
     way-costs : Way (chosenWay g fresh b n o new k)
-    way-costs = by-ways g fresh b n o new k Way (tail-way (n .size) refl) (λ e. (inside-costs g fresh b n o new k (extra g), leaf-costs g fresh b n o new k (extra g)))
+    way-costs = by-ways g fresh b n o new k Way (tail-way (n .size) refl) (λ e. (λ within. inside-costs g fresh b n o new k (extra g), leaf-costs g fresh b n o new k (extra g)))
 
 -- ---- The stores and the pairs of a plan
 

@@ -32,7 +32,7 @@ use Rattle.model.proofs.Tailed.{tailNeed-dead, length-tail}
 use Rattle.model.proofs.WayNeeds.{empty-tail-needs}
 use Rattle.bounds.proofs.Stretches.{sum-times, ones}
 use Rattle.bounds.proofs.Stores.{words-most, in-place-none, in-place-dead, Costs, empty-costs, inside-costs, leaf-costs, by-ways, Low, cost, steps-cost, growth-either, grown-low}
-use Rattle.bounds.proofs.Taken.{tail-most, not-tail, inside-takes, leaf-takes, growth-takes}
+use Rattle.bounds.proofs.Taken.{tail-most, not-tail, inside-takes, leaf-takes, leaf-takes-more, growth-takes}
 
 -- ---- A tail: in each block that stays at most W words are stored, which a fresh one would have too
 
@@ -106,20 +106,21 @@ record Light (y : ℕ) (p : Plan) : Type 0 where
 costs-light : (W k x y : ℕ) (p : Plan) → Costs W k x p → W * p .taken + x ≤ W * (k + y) → Light (W * y) p
 costs-light W k x y p c le = record { only = c .only; is = c .is; hides = omega (arith, c .hides) }
 
-module _ (g : Layout) (pos : 0 < g .words) (fresh : ℕ → ℕ) (new : List ℕ) (X : ℕ) (most : (h o : ℕ) → h ≤ g .height → need (g .words) h o (length new) ≤ X)
-    (b : List ℕ) (n : Inode) (low : Low g n) (o : ℕ) (within : o ≤ n .size) (k : ℕ) where
+-- Y bounds what shadow with length takes: X, and past the end the path to the last byte too
+module _ (g : Layout) (pos : 0 < g .words) (fresh : ℕ → ℕ) (new : List ℕ) (X Y : ℕ) (more : X ≤ Y) (most : (h o : ℕ) → h ≤ g .height → need (g .words) h o (length new) ≤ X)
+    (b : List ℕ) (n : Inode) (low : Low g n) (o k : ℕ) (leaf : 0 < n .size → shadowWithLength g fresh b n o new k .taken ≤ k + Y + 1) where
   abbrev Fair : Plan → Type 0
-  Fair = Light (g .words * (X + 1))
+  Fair = Light (g .words * (Y + 1))
 
   tail-light : (s : ℕ) → s ≡ n .size → Fair (tail g fresh b n s o new k)
   unfolding tail plan step
-  tail-light zero e = costs-light (g .words) k 1 (X + 1) _ (empty-costs g fresh b n o new k 1 (omega arith)) (
+  tail-light zero e = costs-light (g .words) k 1 (Y + 1) _ (empty-costs g fresh b n o new k 1 (omega arith)) (
       let few : emptyTail g fresh b n o new k .taken ≤ k + X = omega (
         arith,
         empty-tail-needs g pos fresh b n new k o,
         most (least (g .words) (g .height) (o + length new)) o (least-within (g .words) pos (g .height) (o + length new)),
       ) in
-      omega (arith, mul-le-mul-left (g .words) few)
+      omega (arith, mul-le-mul-left (g .words) few, mul-le-mul-left (g .words) more)
       )
   tail-light (suc s) e =
       let h : ℕ = n .root % g .words in
@@ -137,14 +138,16 @@ module _ (g : Layout) (pos : 0 < g .words) (fresh : ℕ → ℕ) (new : List ℕ
           ap (λ (x : ℕ). g .words * x) (length-tail (g .words) pos b fresh h K (suc s) new k),
           tail-pays (g .words) b hook h K (suc s) new k (n .at) (omega arith),
           mul-le-mul-left (g .words) (most h (suc s) (low (omega arith))),
+          mul-le-mul-left (g .words) more,
         );
       }
 
   way-light : Fair (chosenWay g fresh b n o new k)
   way-light = by-ways g fresh b n o new k Fair (tail-light (n .size) refl) (λ e.
       let some : 0 < n .size = not-tail g b n o e in (
-        costs-light (g .words) k 0 (X + 1) _ (inside-costs g fresh b n o new k 0) (omega (arith, mul-le-mul-left (g .words) (inside-takes g pos fresh new X most b n low o within k some))),
-        costs-light (g .words) k 0 (X + 1) _ (leaf-costs g fresh b n o new k 0) (omega (arith, mul-le-mul-left (g .words) (leaf-takes g pos fresh new X most b n low o within k some))),
+        λ within. costs-light (g .words) k 0 (Y + 1) _ (inside-costs g fresh b n o new k 0)
+            (omega (arith, mul-le-mul-left (g .words) (inside-takes g pos fresh new X most b n low o k some (omega arith)), mul-le-mul-left (g .words) more)),
+        costs-light (g .words) k 0 (Y + 1) _ (leaf-costs g fresh b n o new k 0) (omega (arith, mul-le-mul-left (g .words) (leaf some))),
       ))
 
 -- ---- The write
@@ -165,23 +168,36 @@ single-cost : (g : Layout) (b : List ℕ) (k o : ℕ) (new : List ℕ) → cost 
 unfolding singleWord plan step cost planEpochs stepEpochs concat
 single-cost g b k o new = refl
 
-module _ (g : Layout) (fit : Fits g) (fresh : ℕ → ℕ) (b : List ℕ) (f : ℕ) (low : Low g (inodeOf g b f)) (o : ℕ) (within : o ≤ size g b f) (new : List ℕ) (X : ℕ)
+module _ (g : Layout) (fit : Fits g) (fresh : ℕ → ℕ) (b : List ℕ) (f : ℕ) (low : Low g (inodeOf g b f)) (o : ℕ) (new : List ℕ) (X Y : ℕ) (more : X ≤ Y)
     (most : (h o : ℕ) → h ≤ g .height → need (g .words) h o (length new) ≤ X) where
-  abbrev Few : Plan → Type 0
-  Few p = cost p ≤ g .words * (g .height + (X + 1)) + 2
+  -- after growth, which leaves the size
+  abbrev LeafTakes : Type 0
+  LeafTakes = (c : List ℕ) (n : Inode) (k : ℕ) → n .size ≡ size g b f → Low g n → 0 < n .size → shadowWithLength g fresh c n o new k .taken ≤ k + Y + 1
 
-  some-light : (end : WalkEnd) → Few (somePlan g fresh b f end o new)
+  some-light : LeafTakes → (end : WalkEnd) → cost (somePlan g fresh b f end o new) ≤ g .words * (g .height + (Y + 1)) + 2
   unfolding somePlan grownPlan grownInode
-  some-light (Block k) = omega (arith, single-cost g b k o new)
-  some-light Hole =
+  some-light leaf (Block k) = omega (arith, single-cost g b k o new)
+  some-light leaf Hole =
       let n : Inode = inodeOf g b f in
       let e : ℕ = o + length new in
       let p : Plan = growth g fresh n e in
-      after-light (g .words) (g .height) (X + 1) p _ (growth-either g fit fresh n e) (growth-takes g (words-pos g fit) fresh n e)
-      (way-light g (words-pos g fit) fresh new X most (performed b (concat (planEpochs (p .steps)))) (grownInode g fresh n e) (grown-low g fit fresh n e low) o within (p .taken))
+      let c : List ℕ = performed b (concat (planEpochs (p .steps))) in
+      let grown : Low g (grownInode g fresh n e) = grown-low g fit fresh n e low in
+      after-light (g .words) (g .height) (Y + 1) p _ (growth-either g fit fresh n e) (growth-takes g (words-pos g fit) fresh n e)
+      (way-light g (words-pos g fit) fresh new X Y more most c (grownInode g fresh n e) grown o (p .taken) (leaf c (grownInode g fresh n e) (p .taken) refl grown))
 
-pub write-light : (g : Layout) → Fits g → (fresh : ℕ → ℕ) (b : List ℕ) (f : ℕ) → Low g (inodeOf g b f) → (o : ℕ) → o ≤ size g b f → (new : List ℕ) (X : ℕ)
-    → ((h o : ℕ) → h ≤ g .height → need (g .words) h o (length new) ≤ X) → cost (writePlan g fresh b f o new) ≤ g .words * (g .height + (X + 1)) + 2
+-- where the offset is not past the size
+pub write-light : (g : Layout) → Fits g → (fresh : ℕ → ℕ) (b : List ℕ) (f : ℕ) → Low g (inodeOf g b f) → (o : ℕ) (new : List ℕ) (X : ℕ)
+    → ((h o : ℕ) → h ≤ g .height → need (g .words) h o (length new) ≤ X) → o ≤ size g b f → cost (writePlan g fresh b f o new) ≤ g .words * (g .height + (X + 1)) + 2
 unfolding writePlan plan cost planEpochs concat
-write-light g fit fresh b f low o within [] X most = omega arith
-write-light g fit fresh b f low o within (x ∷ new) X most = some-light g fit fresh b f low o within (x ∷ new) X most (singleBlock g b f o (o + suc (length new)))
+write-light g fit fresh b f low o [] X most within = omega arith
+write-light g fit fresh b f low o (x ∷ new) X most within = some-light g fit fresh b f low o (x ∷ new) X X (omega arith) most
+    (λ c n k same low some. leaf-takes g (words-pos g fit) fresh (x ∷ new) X most c n low o k some (omega arith)) (singleBlock g b f o (o + suc (length new)))
+
+-- and wherever it is
+pub write-more : (g : Layout) → Fits g → (fresh : ℕ → ℕ) (b : List ℕ) (f : ℕ) → Low g (inodeOf g b f) → (o : ℕ) (new : List ℕ) (X : ℕ)
+    → ((h o : ℕ) → h ≤ g .height → need (g .words) h o (length new) ≤ X) → cost (writePlan g fresh b f o new) ≤ g .words * (g .height + (X + g .height + 1)) + 2
+unfolding writePlan plan cost planEpochs concat
+write-more g fit fresh b f low o [] X most = omega arith
+write-more g fit fresh b f low o (x ∷ new) X most = some-light g fit fresh b f low o (x ∷ new) X (X + g .height) (omega arith) most
+    (λ c n k same low some. leaf-takes-more g (words-pos g fit) fresh (x ∷ new) X most c n low o k some (omega arith)) (singleBlock g b f o (o + suc (length new)))

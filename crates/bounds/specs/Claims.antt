@@ -2,7 +2,7 @@
 use mathlib.Core.Path.{_≡_}
 use mathlib.Core.Logic.{_≢_}
 use mathlib.Core.List.{List}
-use Prim.Native.Nat.{ℕ, _+_, _*_, _≤_}
+use Prim.Native.Nat.{ℕ, _*_, _≤_}
 use lib.ListN.{length}
 use Rattle.model.specs.declared.Answer.the-variants.{Refused}
 use Rattle.model.specs.declared.Fault.the-variants.{PlanLength}
@@ -10,22 +10,24 @@ use Rattle.model.specs.declared.Kind.{Kind}
 use Rattle.model.specs.Words.{Bytes}
 use Rattle.model.specs.Layout.{house, layoutOf}
 use Rattle.model.specs.Board.{size}
-use Rattle.model.specs.Calls.{Planned, writeFrom, write, format}
+use Rattle.model.specs.Calls.{writeFrom, write, format}
 use Rattle.model.specs.Cut.{Change, calledFrom, planOf}
 use Rattle.bounds.specs.Bounds.{mostStores, sharpStores, storeCount}
 
 -- *For a base-layout write of L bytes, L at least 1 and the offset not past the size, its plan has at most 8 × (t + u + v + 5) + 32 stores, barriers not
--- counted*: every board, every file, all bytes, every slice. A call that is refused leaves no plan, and one of no bytes an empty one
+-- counted*: every board, every file, all bytes, every slice; also where the offset lies past the size. A call that is refused leaves no plan, and one of no
+-- bytes an empty one
 abbrev pub StoresRule : Type 0
-StoresRule = (b : List ℕ) (f o : ℕ) (new : Bytes) (slice : List ℕ) → o ≤ size house b f → storeCount (planOf (write house b f o (new .values) slice)) ≤ mostStores (length (new .values))
+StoresRule = (b : List ℕ) (f o : ℕ) (new : Bytes) (slice : List ℕ) → storeCount (planOf (write house b f o (new .values) slice)) ≤ mostStores (length (new .values))
 
--- 30 fewer are enough, and three pairs more hold its barriers, in whichever order blocks are taken: p is what the call leaves, l the count of its bytes
-pub record Sharp (p : Planned) (l : ℕ) : Type 0 where
-  pub counts : storeCount (planOf p) ≤ sharpStores l
-  pub pairs : length (planOf p) ≤ sharpStores l + 3
+-- so many are enough with its barriers, in whichever order blocks are taken
+abbrev pub PairsRule : Type 0
+PairsRule = (b : List ℕ) (fresh : ℕ → ℕ) (f o : ℕ) (new : Bytes) (slice : List ℕ) → length (planOf (writeFrom house b fresh f o (new .values) slice)) ≤ mostStores (length (new .values))
 
+-- and 30 fewer stores where the offset is not past the size
 abbrev pub SharpRule : Type 0
-SharpRule = (b : List ℕ) (fresh : ℕ → ℕ) (f o : ℕ) (new : Bytes) (slice : List ℕ) → o ≤ size house b f → Sharp (writeFrom house b fresh f o (new .values) slice) (length (new .values))
+SharpRule = (b : List ℕ) (fresh : ℕ → ℕ) (f o : ℕ) (new : Bytes) (slice : List ℕ) → o ≤ size house b f
+    → storeCount (planOf (writeFrom house b fresh f o (new .values) slice)) ≤ sharpStores (length (new .values))
 
 -- with a number below its 2 it would not hold: there is a write that costs so many
 abbrev pub MetRule : Type 0
@@ -41,7 +43,7 @@ RoomRule = (k : Kind) (b : List ℕ) (fresh : ℕ → ℕ) (c : Change) (slice :
 abbrev pub FormatRoomRule : Type 0
 FormatRoomRule = (k : Kind) (b slice : List ℕ) → 2 * length b ≤ length slice → format (layoutOf k) b slice .answer ≢ Refused PlanLength
 
--- a write that does not begin past the size needs no more than two words for each of those pairs
+-- nor a write, with two words for each pair that it may have
 abbrev pub WriteRoomRule : Type 0
-WriteRoomRule = (b : List ℕ) (fresh : ℕ → ℕ) (f o : ℕ) (new : Bytes) (slice : List ℕ) → o ≤ size house b f → 2 * (sharpStores (length (new .values)) + 3) ≤ length slice
+WriteRoomRule = (b : List ℕ) (fresh : ℕ → ℕ) (f o : ℕ) (new : Bytes) (slice : List ℕ) → 2 * mostStores (length (new .values)) ≤ length slice
     → writeFrom house b fresh f o (new .values) slice .answer ≢ Refused PlanLength

@@ -19,8 +19,7 @@ use Rattle.model.specs.Answers.{counted}
 use Rattle.model.specs.Calls.{checkAnswer, write, setLength, format}
 use Rattle.model.specs.Cut.{writing, lengthTo, planOf, after, Cut, Names, standing, lastArrived}
 use Rattle.model.specs.Claims.{CutSafe, Altered, Empty}
-use Rattle.bounds.specs.Bounds.{mostStores, storeCount}
-use Rattle.bounds.specs.Claims.{Sharp}
+use Rattle.bounds.specs.Bounds.{mostStores, sharpStores, storeCount}
 use Rattle.plans.specs.Laying.{PlanResult}
 use Rattle.performing.specs.Results.{PerformResult}
 
@@ -75,10 +74,13 @@ abbrev pub FormatPromise : Type 0
 FormatPromise = (k : Kind) → let g : Layout = layoutOf k in (b : List ℕ) → T (wordCountSound g b) → (slice : List ℕ) (r : Answer) (slice′ : List ℕ)
     → PlanResult (format g b slice) r slice′ → Formats g b r slice′
 
--- `write`, N12 of document 02: the plan that it left has at most so many stores; and 30 fewer, with three barriers
+-- `write`, N12 of document 02: the plan that it left has at most so many stores; so many pairs too; 30 fewer stores where the offset is not past the size; and
+-- with two words for each of those pairs it was not refused 8
 abbrev pub StoresPromise : Type 0
-StoresPromise = (b : List ℕ) (f o : ℕ) (bytes : Bytes) (slice : List ℕ) (r : Answer) (slice′ : List ℕ) → PlanResult (write house b f o (bytes .values) slice) r slice′ → o ≤ size house b f
-    → (storeCount (planLeft r slice′) ≤ mostStores (length (bytes .values))) × Sharp (record { answer = r; slice = slice′ }) (length (bytes .values))
+StoresPromise = (b : List ℕ) (f o : ℕ) (bytes : Bytes) (slice : List ℕ) (r : Answer) (slice′ : List ℕ) → PlanResult (write house b f o (bytes .values) slice) r slice′
+    → let l : ℕ = length (bytes .values) in
+    (storeCount (planLeft r slice′) ≤ mostStores l) × (length (planLeft r slice′) ≤ mostStores l) × (o ≤ size house b f → storeCount (planLeft r slice′) ≤ sharpStores l)
+    × (2 * mostStores l ≤ length slice → r ≢ Refused PlanLength)
 
 -- with a plan slice of twice the board's words no call that plans was refused 8: write and length change, and format
 abbrev pub RoomPromise : Type 0
