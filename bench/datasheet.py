@@ -1,12 +1,14 @@
 #!/usr/bin/env python3
 """The tables of docs/DATASHEET.md and its picture, from the CSV that target/bench/stores prints.
 
-    datasheet.py tables SIZES    Markdown; SIZES is a file with what `size` printed of the archives
-    datasheet.py picture         SVG
+    datasheet.py tables SIZES     Markdown; SIZES is a file with what `size` printed of the archives
+    datasheet.py picture          SVG
+    datasheet.py formulas PAGE    nothing; fails where the page's formulas for t, u and v are not the reference model's
 """
 import csv
 import math
 import os
+import re
 import sys
 
 from picture import GROUND, INK, LINE, PALE, text
@@ -37,14 +39,20 @@ def dearest(met):
 
 
 def stores_table(writes):
-    heads = ['Bytes written', 'At most, + 32', 'At most, + 2', 'Most met', 'By a write', 'Plans counted', 'Words of its plan, at most']
-    return table(heads, [row(*(int(w[k]) for k in ('bytes', 'figure', 'sharp', 'most')), dearest(w), int(w['planned']), 2 * (int(w['sharp']) + 3)) for w in writes])
+    heads = ['Bytes written', 'At most, + 32', 'At most, + 2', 'Most met', 'By a write', 'Plans counted']
+    return table(heads, [row(*(int(w[k]) for k in ('bytes', 'figure', 'sharp', 'most')), dearest(w), int(w['planned'])) for w in writes])
+
+
+def past_table(writes):
+    heads = ['Bytes written', 'Past the end, most met', 'Plans counted', 'Words of a plan, past the end or not, at most']
+    met = [int(w['past']) if int(w['past_planned']) else 'none can be' for w in writes]
+    return table(heads, [row(int(w['bytes']), most, int(w['past_planned']), 2 * int(w['figure'])) for w, most in zip(writes, met)])
 
 
 def others_table(writes, lengths):
     most = max(int(w['barriers']) for w in writes)
     return table(['Change', 'Most met', 'Plans counted'], [
-        row('Barriers of a write', most, sum(int(w['planned']) for w in writes)),
+        row('Barriers of a write', most, sum(int(w['planned']) + int(w['past_planned']) for w in writes)),
         row('Stores of a length change', int(lengths['most']), int(lengths['lengths'])),
     ])
 
@@ -67,7 +75,21 @@ def sizes_table(path):
 
 def tables(path):
     writes, [lengths], boards = read_parts()
-    return [*stores_table(writes), *others_table(writes, lengths), *visited_table(writes), *limits_table(boards), *sizes_table(path)]
+    return [*stores_table(writes), *past_table(writes), *others_table(writes, lengths), *visited_table(writes), *limits_table(boards), *sizes_table(path)]
+
+
+# ---- Formulas
+
+
+def formulas(path):
+    with open(path) as page:
+        found = dict(re.findall(r'^    ([tuv]) = (.*?)  ', page.read(), re.M))
+    for length in range(1, MOST_BYTES + 1):
+        values = {'L': length}
+        for name in 'tuv':
+            values[name] = eval(found[name].replace('/', '//'), {}, values)
+        assert values['t'] + values['u'] + values['v'] + 5 == board.most_blocks(length), (path, length)
+    return []
 
 
 # ---- Picture: bytes to the right, stores upward, both by doubling
@@ -116,17 +138,17 @@ def grid():
 
 def legend():
     x = LEFT
-    for words, colour in [('8 × (t + u + v + 5) + 32', FIGURE), ('+ 2', SHARP), ('most met', MET), ('words of the bytes alone', DATA)]:
+    for said, colour in [('8 × (t + u + v + 5) + 32', FIGURE), ('+ 2', SHARP), ('most met', MET), ('words of the bytes alone', DATA)]:
         yield '<rect x="%g" y="52" width="12" height="12" fill="%s"/>' % (x, colour)
-        yield text(x + 18, 62.5, words)
-        x += 50 + 7.5 * len(words)
+        yield text(x + 18, 62.5, said)
+        x += 50 + 7.5 * len(said)
 
 
-def label(x, y, length, words):
+def label(x, y, length, stores):
     """Under the lines while they are level, left of them where they rise."""
     if length <= 512:
-        return text(x, y + 20, words, 12, 'middle' if length > 1 else 'start', INK)
-    return text(x - 12, y - 8, words, 12, 'end', INK)
+        return text(x, y + 20, stores, 12, 'middle' if length > 1 else 'start', INK)
+    return text(x - 12, y - 8, stores, 12, 'end', INK)
 
 
 def picture():
@@ -151,4 +173,5 @@ def picture():
 
 
 if __name__ == '__main__':
-    print('\n'.join(tables(sys.argv[2]) if sys.argv[1] == 'tables' else picture()))
+    said = {'tables': lambda: tables(sys.argv[2]), 'formulas': lambda: formulas(sys.argv[2]), 'picture': picture}
+    print('\n'.join(said[sys.argv[1]]()))

@@ -1,7 +1,8 @@
 //! What a change costs at most, as the data sheet has it: the stores of very many of the library's plans, on boards that
-//! make a write dear and on any, those of writes held against N12's figure and the sharper one (docs/src). Prints CSV: a
-//! line for each length, with the dearest write that was met and the most blocks on the paths to so many bytes; a line for
-//! changes of a length; a line for each of the least and the greatest boards.
+//! make a write dear and on any. Those of writes are held against the sharper of N12's figures, where they begin past the
+//! end their pairs against the other (docs/src). Prints CSV: a line for each length, with the dearest writes that were met
+//! and the most blocks on the paths to so many bytes; a line for changes of a length; a line for each of the least and the
+//! greatest boards.
 //!
 //!     stores           changes at five places of each block
 //!     stores --all     changes at every byte
@@ -38,27 +39,29 @@ struct Dearest {
     offset: u64,
     size: u64,
     root: u64,
-    planned: u64,
 }
 
 struct Count {
     bytes: Vec<u8>,
     plan: Vec<u64>,
-    dearest: Dearest,
+    /// Not past the end, and past it.
+    dearest: [Dearest; 2],
+    planned: [u64; 2],
     /// The most barriers of a plan.
     barriers: u64,
 }
 
 impl Count {
     fn of(length: usize) -> Count {
-        Count { bytes: vec![0xA7; length], plan: Vec::new(), dearest: Dearest::default(), barriers: 0 }
+        let dearest = <[Dearest; 2]>::default();
+        Count { bytes: vec![0xA7; length], plan: Vec::new(), dearest, planned: [0; 2], barriers: 0 }
     }
 
     fn length(&self) -> u64 {
         self.bytes.len() as u64
     }
 
-    /// Plans a write that is not past the end, and counts its stores.
+    /// Plans a write, and counts its stores.
     fn plan(&mut self, board: &[u64], file: u64, offset: u64) {
         self.plan.resize(room(board), 0);
         let answer = HOUSE.write(board, file, offset, &self.bytes, &mut self.plan);
@@ -68,22 +71,25 @@ impl Count {
         };
         let stores = store_count(&self.plan, pairs);
         let (length, (root, size)) = (self.length(), LAYOUT.root_and_size(board, file));
-        let sharp = sharp_most_stores(length);
-        assert!(stores <= sharp, "{length} bytes at {offset} of {size}: {stores} stores, more than {sharp}");
+        let (past, most, sharp) = (offset > size, most_stores(length), sharp_most_stores(length));
+        assert!(pairs <= most, "{length} bytes at {offset} of {size}: {pairs} pairs, more than {most}");
+        assert!(past || stores <= sharp, "{length} bytes at {offset} of {size}: {stores} stores, more than {sharp}");
         self.barriers = self.barriers.max(pairs - stores);
-        let planned = self.dearest.planned + 1;
-        if stores > self.dearest.stores {
-            self.dearest = Dearest { stores, offset, size, root, planned };
+        self.planned[usize::from(past)] += 1;
+        let dearest = &mut self.dearest[usize::from(past)];
+        if stores > dearest.stores {
+            *dearest = Dearest { stores, offset, size, root };
         }
-        self.dearest.planned = planned;
     }
 
     /// At an offset of a file with this tree, for each size that changes the way: the write begins at the end, crosses it,
-    /// ends one byte past it or at it, or lies far inside.
+    /// ends one byte past it or at it, or lies far inside; or it begins past the end, of a file of one byte, of one block, or
+    /// just past it.
     fn at(&mut self, board: &mut [u64], offset: u64) {
         let end = offset + self.length();
         let at = LAYOUT.inode(board, FILE) + 1;
-        let mut sizes = [offset, offset + 1, end - 1, end, LAYOUT.greatest()];
+        let before = [1, LAYOUT.block_bytes(), offset.saturating_sub(1)].map(|size| size.min(offset));
+        let mut sizes = [&before[..], &[offset, offset + 1, end - 1, end, LAYOUT.greatest()]].concat();
         sizes.sort_unstable();
         for (i, &size) in sizes.iter().enumerate() {
             if i == 0 || size != sizes[i - 1] {
@@ -105,7 +111,8 @@ impl Count {
             let file = random.below(32);
             let (_, size) = LAYOUT.root_and_size(board, file);
             let last = LAYOUT.greatest() - self.length();
-            self.plan(board, file, random.below(size.min(last) + 1));
+            let offset = if random.one_in(4) { LAYOUT.past_end(random, size) } else { random.below(size + 1) };
+            self.plan(board, file, offset.min(last));
         }
     }
 }
@@ -221,13 +228,15 @@ fn main() {
         }
     }
     let tall = full(LAYOUT.greatest_height());
-    println!("bytes,figure,sharp,most,offset,size,height,block,planned,visited,barriers");
+    println!("bytes,figure,sharp,most,offset,size,height,block,planned,past,past_planned,visited,barriers");
     for count in &counts {
         let length = count.length();
         let (figure, sharp, visited) = (most_stores(length), sharp_most_stores(length), visited(&tall, length));
-        let Dearest { stores, offset, size, root, planned } = count.dearest;
-        let (height, block, barriers) = (LAYOUT.low_of(root), LAYOUT.block_of(root), count.barriers);
-        println!("{length},{figure},{sharp},{stores},{offset},{size},{height},{block},{planned},{visited},{barriers}");
+        let (Dearest { stores, offset, size, root }, past) = (&count.dearest[0], count.dearest[1].stores);
+        let (height, block, barriers) = (LAYOUT.low_of(*root), LAYOUT.block_of(*root), count.barriers);
+        let [planned, past_planned] = count.planned;
+        print!("{length},{figure},{sharp},{stores},{offset},{size},{height},{block},{planned},");
+        println!("{past},{past_planned},{visited},{barriers}");
     }
     let (most, planned) = lengths(&boards, all);
     println!("\nlengths,most\n{planned},{most}");

@@ -1,7 +1,7 @@
 //! Document 01 ("Cabinet memory board: block trees and planned stores"), as changed by requests N1 ("The block column
 //! in the lister"), N3 ("Writing past the end"), N4 ("Height by cases"), N11 ("Boards with the published block") and
-//! N12 ("How many stores a write may cost"), written out a second time, from their sentences alone, so that another
-//! implementation can be compared with it. It is slow and plain on purpose: each call reads the lent board, makes its
+//! N12 ("How many stores a write may cost"), written out a second time, from their sentences alone but for N12's sharper
+//! figure, which no document has, so that another implementation can be compared with it. It is slow and plain on purpose: each call reads the lent board, makes its
 //! whole plan as a list of epochs, and only then tests the refusals that depend on it.
 //!
 //! A call takes the layout of the boards that it is for. The bands, the walk to a byte, the most stores of a write, the

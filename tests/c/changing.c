@@ -179,31 +179,33 @@ static void perform_refuses(void)
 
 /* ---- Plan slices: so many words as the header gives are enough for every call, on whatever words. */
 
-static unsigned planned; /* calls that were accepted with a plan of some pairs */
-
-static void is_not_8(const char *call, int64_t found)
+/* Whether the call was accepted with a plan of some pairs; it may not be refused 8. */
+static bool is_not_8(const char *call, int64_t found)
 {
-    planned += found > 0;
     if (fails(found != -MONTEBEECH_PLAN_LENGTH))
         printf("%s: refused 8 with %zu words of plan for a board of %zu\n", call, MONTEBEECH_PLAN_WORDS(board_len), board_len);
+    return found > 0;
 }
 
-/* Writes of many lengths from the end of file 0 on, and lengths; format. At least so many must be accepted. */
+/*
+ * Writes of many lengths to file 0, at its end, inside it and past its end, and lengths; format. Of each kind of write at least so many
+ * must be accepted.
+ */
 static void calls_have_room(unsigned least)
 {
-    planned = 0;
+    unsigned ends = 0, inside = 0, past = 0;
     size_t lent = MONTEBEECH_PLAN_WORDS(board_len);
     int64_t size = montebeech_words_size(board, board_len, 0);
     uint64_t offset = size < 0 ? 0 : (uint64_t)size;
     for (size_t len = 0; len <= GREATEST; len += 1 + len / 16) {
-        is_not_8("write", montebeech_words_write(board, board_len, 0, offset, bytes, len, plan, lent));
-        is_not_8("write inside", montebeech_words_write(board, board_len, 0, offset / 2, bytes, len, plan, lent));
-        is_not_8("write past the end", montebeech_words_write(board, board_len, 0, offset + 65, bytes, len, plan, lent));
+        ends += is_not_8("write", montebeech_words_write(board, board_len, 0, offset, bytes, len, plan, lent));
+        inside += is_not_8("write inside", montebeech_words_write(board, board_len, 0, offset / 2, bytes, len, plan, lent));
+        past += is_not_8("write past the end", montebeech_words_write(board, board_len, 0, offset + 65, bytes, len, plan, lent));
         is_not_8("length change", montebeech_words_set_length(board, board_len, 0, len, plan, lent));
     }
     is_not_8("format", montebeech_words_format(board, board_len, plan, lent));
-    if (fails(planned >= least))
-        printf("%zu words: expected %u plans at least, found %u\n", board_len, least, planned);
+    if (fails(ends >= least && inside >= least && past >= least))
+        printf("%zu words: expected %u plans of writes at least, found %u, %u and %u\n", board_len, least, ends, inside, past);
 }
 
 static void plan_words_suffice(void)
@@ -211,11 +213,11 @@ static void plan_words_suffice(void)
     about("words of a plan");
     for (size_t blocks = 16; blocks <= 1024; blocks *= 2) {
         format(blocks);
-        calls_have_room(100);
+        calls_have_room(20);
         write_bytes(0, 0, 64 * (blocks / 8));
-        calls_have_room(100);
-        board_len -= 8; /* no trailer: format alone is accepted, and not below 16 blocks */
-        calls_have_room(blocks > 16);
+        calls_have_room(blocks > 16 ? 20 : 0); /* on 16 blocks two are left, too few to write past the end */
+        board_len -= 8; /* no trailer */
+        calls_have_room(0);
         board_len = 3;
         calls_have_room(0);
     }

@@ -1,5 +1,5 @@
-//! N12's bound, and the sharp one, beside the stores of every accepted write that they are for: of at least one byte,
-//! not past the size, on the house's boards. Some writes are made here so that they come up to the sharp one.
+//! N12's bound beside the pairs of every accepted write of at least one byte on the house's boards, and the sharp one beside
+//! the stores of those that do not begin past the size. Some writes are made here so that they cost as much as any.
 
 use crate::calls::Calls;
 use std::fmt::{Display, Formatter};
@@ -28,6 +28,9 @@ const SHARPER: u64 = 30;
 /// A plan has no more.
 const BARRIERS: u64 = 3;
 
+/// So many pairs fewer than N12's bound has the dearest write past the end.
+const SPARE_PAST: u64 = 3;
+
 /// First and last count of bytes: t, u and v are 1, then 2; then t is above 2, then u as well, then v as well.
 const BANDS: [(&str, u64, u64); 5] = [
     ("1 byte", 1, 1),
@@ -45,10 +48,11 @@ fn figures_are_right() {
     }
 }
 
-// ---- Writes that come up to the bound
+// ---- Writes that cost much
 
-/// A write to a file of one data block, whose size is far above the span. The tree grows from height 0; then, as the
-/// end lies above the size and the offset in a hole, all paths to written bytes and the inode leaf are made fresh.
+/// A write to a file of one data block, whose size is far above the span, or which begins past it. The tree grows from
+/// height 0; then, as the end lies above the size and the offset in a hole or past the size, all paths to written bytes and
+/// the inode leaf are made fresh.
 struct Steep {
     offset: u64,
     count: u64,
@@ -75,19 +79,27 @@ impl Steep {
         let edges = (HOUSE.greatest() + 1 - count - 4_096) / span + 1;
         let edge = 4_096 + span * random.below(edges);
         let offset = edge - 1 - random.below(2) * random.below(63);
-        Steep { offset, count, size: offset + random.below(count) }
+        let size = if random.one_in(4) { 1 + random.below(HOUSE.block_bytes()) } else { offset + random.below(count) };
+        Steep { offset, count, size }
+    }
+
+    fn past_end(&self) -> bool {
+        self.size < self.offset
     }
 
     fn end(&self) -> u64 {
         self.offset + self.count
     }
 
-    /// One for each level that the tree grows by, those on the paths to written bytes, and the inode leaf.
+    /// One for each level that the tree grows by, those on the paths to written bytes and, past the end, on that to the last
+    /// byte, and the inode leaf.
     fn fresh_blocks(&self) -> u64 {
         let height = HOUSE.least_height(self.end());
         let with_written = |span: &u64| (self.end() - 1) / span - self.offset / span + 1;
         let paths: u64 = HOUSE.spans[..=height].iter().map(with_written).sum();
-        height as u64 + paths + 1
+        let beside = |span: &&u64| self.past_end() && self.offset >= **span;
+        let to_last = HOUSE.spans[..height].iter().filter(beside).count() as u64;
+        height as u64 + paths + to_last + 1
     }
 
     /// Eight to each fresh block, the root word that ends the growth, and the inode pointer.
@@ -114,11 +126,13 @@ impl Costs {
         figures_are_right();
         let steep = Steep::some(random);
         let (file, blocks) = (random.below(FILES), steep.blocks(random));
-        let few = 1 + random.below(HOUSE.block_bytes()) as usize;
-        let (few, bytes) = (random.bytes(few), random.bytes(steep.count as usize));
+        let few = if steep.past_end() { steep.size } else { 1 + random.below(HOUSE.block_bytes()) };
+        let (few, bytes) = (random.bytes(few as usize), random.bytes(steep.count as usize));
         let bare = HOUSE.bare(random, blocks);
-        let short = after(calls, &bare, |calls, room| calls.write(&bare, file, 0, &few, room));
-        let board = after(calls, &short, |calls, room| calls.set_length(&short, file, steep.size, room));
+        let mut board = after(calls, &bare, |calls, room| calls.write(&bare, file, 0, &few, room));
+        if !steep.past_end() {
+            board = after(calls, &board, |calls, room| calls.set_length(&board, file, steep.size, room));
+        }
         let (pairs, plan) = calls.write(&board, file, steep.offset, &bytes, room(&board));
         let write = Held::of(&board, file, (steep.offset, bytes.len()), (done(pairs), &plan));
         assert!(write.stores == steep.stores(), "{write}, not {}", steep.stores());
@@ -155,6 +169,10 @@ impl Display for Held {
 
 #[derive(Default)]
 pub struct Costs {
+    /// Writes past the end, and the least number of pairs by which one missed the bound.
+    past: u64,
+    least_past: Option<u64>,
+    /// The others.
     held: u64,
     /// Those that met the sharp bound, in all and by their bytes.
     met: u64,
@@ -164,19 +182,30 @@ pub struct Costs {
 }
 
 impl Costs {
-    /// An accepted write of any kind. Those of no bytes and those past the end have no bound.
+    /// An accepted write of any kind. One of no bytes has no bound.
     pub fn write(&mut self, board: &[u64], file: u64, stretch: (u64, usize), plan: (u64, &[u64])) {
         let write = Held::of(board, file, stretch, plan);
-        if write.count > 0 && write.offset <= write.size {
+        if write.count > 0 {
             self.hold(write);
         }
     }
 
     fn hold(&mut self, write: Held) {
-        let (most, sharp) = (document::most_stores(write.count), document::sharp_most_stores(write.count));
-        assert!(write.stores <= most, "{write}, the bound is {most}");
-        assert!(write.stores <= sharp, "{write}, the sharp bound is {sharp}");
+        let most = document::most_stores(write.count);
+        assert!(write.pairs <= most, "{write}, the bound is {most}");
         assert!(write.pairs <= write.stores + BARRIERS, "{write}: more than {BARRIERS} barriers");
+        if write.offset <= write.size {
+            self.hold_sharp(write);
+            return;
+        }
+        let spare = most - write.pairs;
+        self.past += 1;
+        self.least_past = Some(self.least_past.map_or(spare, |least| least.min(spare)));
+    }
+
+    fn hold_sharp(&mut self, write: Held) {
+        let sharp = document::sharp_most_stores(write.count);
+        assert!(write.stores <= sharp, "{write}, the sharp bound is {sharp}");
         let slack = sharp - write.stores;
         self.held += 1;
         if slack == 0 {
@@ -195,11 +224,15 @@ impl Costs {
             println!("stores of writes not past the end: least slack {slack}, first in the {write}");
         }
         self.met_by.report("writes that met the sharp bound exactly, of");
+        if let Some(spare) = self.least_past {
+            println!("pairs of writes past the end: {} held against the bound, least slack {spare}", self.past);
+        }
     }
 
     /// A bound that is higher than it need be is never met.
     pub fn all_met(&self) {
         assert!(self.met > 0, "no write met the sharp bound exactly");
         self.met_by.all_met("write that met the sharp bound exactly, of");
+        assert!(self.least_past == Some(SPARE_PAST), "least slack of writes past the end: {:?}", self.least_past);
     }
 }

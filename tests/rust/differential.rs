@@ -1,6 +1,6 @@
 //! The built library held against document 01 in plain Rust (docs/src): every answer, and every word and byte of what a
 //! call is lent, on random boards, damaged ones among them, and with arguments at and around every bound. On the house's
-//! boards, also N12's bound on the stores of a write; or with the word `published` on N11's boards.
+//! boards, also N12's bounds on the stores of a write; or with the word `published` on N11's boards.
 //!
 //!     differential [published] SEED CALLS [ROUND]    rounds of the seed from ROUND on, until CALLS calls were compared
 
@@ -29,7 +29,7 @@ const FAR_FILES: [u64; 7] = [32, 33, 64, 256, 1 << 32, 1 << 63, u64::MAX];
 /// A sweep through all arguments is one among so many rounds.
 const SWEEP_EVERY: u64 = 400;
 
-/// A write that comes up to N12's bound is made before one among so many.
+/// A write that costs as much as any is made before one among so many.
 const COSTS_EVERY: u64 = 4;
 
 /// What is held against what, and how much of it.

@@ -1,4 +1,4 @@
--- A write that costs as many stores as any may, by computation.
+-- A write of two bytes that costs as many stores as any may, by computation.
 use mathlib.Core.Path.{refl}
 use mathlib.Core.List.{List, [], _∷_}
 use Prim.Native.Nat.{ℕ}

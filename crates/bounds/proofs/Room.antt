@@ -7,7 +7,7 @@ use Prim.Native.Nat.{ℕ, _+_, _-_, _*_, _≤_, _<_}
 use native.Mathlib.Omega.{arith}
 use native.Mathlib.Nat.{mul-le-mul-left, mul-le-mul-right}
 use lib.ListN.{length, length-append}
-use lib.Dec.{T, leb, ltb, eqb}
+use lib.Dec.{T, ltb, eqb}
 use borrow.Author.Tests.{le-ltb, not-false}
 use Rattle.model.specs.declared.Answer.the-variants.{Refused}
 use Rattle.model.specs.declared.Fault.{Fault}
@@ -22,7 +22,7 @@ use Rattle.model.specs.Plan.{Step, Plan, plan, pairs}
 use Rattle.model.specs.Change.{writePlan, lengthPlan}
 use Rattle.model.specs.Format.{formatPlan}
 use Rattle.model.specs.Answers.{Faults, number, answered}
-use Rattle.model.specs.Calls.{wordCountFault, boardFaults, fileFaults, checkAnswer, planned, writeFaults, writeFrom, setLength, format}
+use Rattle.model.specs.Calls.{wordCountFault, boardFaults, fileFaults, planned, writeFaults, writeFrom, setLength, format}
 use Rattle.model.specs.Cut.{Change, writing, lengthTo, calledFrom}
 use Rattle.model.proofs.Cases.{either}
 use Rattle.model.proofs.Perform.{All, all-append, length-tabulate}
@@ -46,7 +46,7 @@ live-least : (g : Layout) (b : List ℕ) → g .leaves + 1 ≤ length (liveBlock
 unfolding liveBlocks
 live-least g b = omega (arith, length-append (tabulate (g .leaves) (leaf g b)) (joined (files g) (fileBlocks g b)), length-tabulate (g .leaves) (leaf g b))
 
--- figures that leave room: with the live blocks, block 0 and the trailer for the stores that go to no fresh block, and for barriers
+-- figures with which the leaves, the inode pointer block, block 0 and the trailer have more words than a plan has pairs that go to no fresh block
 record Roomy (g : Layout) : Type 0 where
   fit : Fits g
   wide : 5 ≤ g .words

@@ -31,7 +31,7 @@ use Rattle.bounds.specs.Bounds.{t, u, v, mostBlocks, mostStores, sharpSt
 use Rattle.bounds.specs.Claims.{StoresRule, PairsRule, SharpRule}
 use Rattle.bounds.proofs.Stretches.{met, need-met}
 use Rattle.bounds.proofs.Stores.{Low, extra, cost, pairs-most, write-bounded}
-use Rattle.bounds.proofs.Writes.{write-light, write-more}
+use Rattle.bounds.proofs.Writes.{write-most, write-most-past}
 
 -- ---- The house's figures
 
@@ -138,13 +138,13 @@ module _ (b : List ℕ) (fresh : ℕ → ℕ) (f o : ℕ) (new : List ℕ) where
     -- within the size, and wherever it is: three blocks more
     few-stores : o ≤ size house b f → cost p ≤ sharpStores l
     unfolding sharpStores mostBlocks
-    few-stores within = omega (arith, write-light house house-fits fresh b f low o new (t l + u l + v l + 1) (λ h o′ le. house-need h o′ l le) within)
+    few-stores within = omega (arith, write-most house house-fits fresh b f low o new (t l + u l + v l + 1) (λ h o′ le. house-need h o′ l le) within)
 
     pub few-pairs : length (pairs p) ≤ mostStores l
     unfolding mostStores mostBlocks
     few-pairs = omega (
       arith,
-      write-more house house-fits fresh b f low o new (t l + u l + v l + 1) (λ h o′ le. house-need h o′ l le),
+      write-most-past house house-fits fresh b f low o new (t l + u l + v l + 1) (λ h o′ le. house-need h o′ l le),
       pairs-most 8 (extra house) p (write-bounded house house-fits fresh b f low o new),
     )
 

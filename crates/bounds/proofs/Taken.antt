@@ -1,4 +1,4 @@
--- How many fresh blocks a write takes whose offset is not past the size: those on paths to written bytes, a leaf, and the levels of growth.
+-- How many fresh blocks a write takes: those on paths to written bytes and, past the end, on the path to the last byte; a leaf; and the levels of growth.
 use mathlib.Core.Path.{_≡_, sym, ap, _∙_}
 use mathlib.Core.Logic.{_≢_, inl, inr}
 use mathlib.Core.Bool.{Bool, true, false, cond, and-false, false≢true}
@@ -12,7 +12,7 @@ use Rattle.model.specs.declared.Inode.{Inode}
 use Rattle.model.specs.Lists.{sum}
 use Rattle.model.specs.Layout.{Layout}
 use Rattle.model.specs.Tree.{live, span, least, cell, link}
-use Rattle.model.specs.Plan.{Plan, plan}
+use Rattle.model.specs.Plan.{plan}
 use Rattle.model.specs.Fresh.{partLength, touched, freshNeed, freshBefore, need}
 use Rattle.model.specs.InPlace.{tailNeed}
 use Rattle.model.specs.Change.{levels, growing, growthTo, growth, isTail, descend, shadowInside, shadowWithLength}
