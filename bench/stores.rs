@@ -1,8 +1,8 @@
-//! What a change costs at most, as the data sheet has it: the stores of very many of the library's plans, on boards that
-//! make a write dear and on any. Those of writes are held against the sharper of N12's figures, where they begin past the
-//! end their pairs against the other (docs/src). Prints CSV: a line for each length, with the dearest writes that were met
-//! and the most blocks on the paths to so many bytes; a line for changes of a length; a line for each of the least and the
-//! greatest boards.
+//! What a change costs at most, as the data sheet has it: the stores of very many of the library's plans, on boards
+//! that make a write dear and on any. Those of writes are held against the sharper of N12's figures, where they begin
+//! past the end their pairs against the other (docs/src). Prints CSV: a line for each length, with the dearest writes
+//! that were met and the most blocks on the paths to so many bytes; a line for changes of a length; a line for each of
+//! the least and the greatest boards.
 //!
 //!     stores           changes at five places of each block
 //!     stores --all     changes at every byte
@@ -82,9 +82,9 @@ impl Count {
         }
     }
 
-    /// At an offset of a file with this tree, for each size that changes the way: the write begins at the end, crosses it,
-    /// ends one byte past it or at it, or lies far inside; or it begins past the end, of a file of one byte, of one block, or
-    /// just past it.
+    /// At an offset of a file with this tree, for each size that changes the way: the write begins at the end, crosses
+    /// it, ends one byte past it or at it, or lies far inside; or it begins past the end, of a file of one byte, of one
+    /// block, or just past it.
     fn at(&mut self, board: &mut [u64], offset: u64) {
         let end = offset + self.length();
         let at = LAYOUT.inode(board, FILE) + 1;
@@ -149,8 +149,8 @@ fn trees() -> Vec<Vec<u64>> {
 
 // ---- Changes of a length
 
-/// The most stores of a change of a length, from each size that is tried to the greatest length, to one byte more and to
-/// one less; and how many were planned.
+/// The most stores of a change of a length, from each size that is tried to the greatest length, to one byte more and
+/// to one less; and how many were planned.
 fn lengths(boards: &[Vec<u64>], all: bool) -> (u64, u64) {
     let (mut most, mut planned) = (0, 0);
     for tree in boards {

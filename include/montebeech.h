@@ -104,8 +104,8 @@ int64_t montebeech_words_walk(const uint64_t *board, size_t board_len, uint64_t 
 /*
  * Plans a write of bytes_len bytes at offset of a file. The offset may lie past the file's size: the bytes between then
  * read 0, and the call is one change as any other. With bytes_len 0 the plan is empty and the file stays as it is,
- * wherever the offset lies up to 32,768; above it the call is refused 6. How many stores the plan has at most, by bytes_len,
- * is in docs/DATASHEET.md. Refuses 1, 2, 3, 4, 6, 7, 8.
+ * wherever the offset lies up to 32,768; above it the call is refused 6. How many stores the plan has at most, by
+ * bytes_len, is in docs/DATASHEET.md. Refuses 1, 2, 3, 4, 6, 7, 8.
  */
 int64_t montebeech_words_write(const uint64_t *board, size_t board_len, uint64_t file, uint64_t offset,
                                const uint8_t *bytes, size_t bytes_len, uint64_t *plan, size_t plan_len);

@@ -1,5 +1,6 @@
-//! N12's bound beside the pairs of every accepted write of at least one byte on the house's boards, and the sharp one beside
-//! the stores of those that do not begin past the size. Some writes are made here so that they cost as much as any.
+//! N12's bound beside the pairs of every accepted write of at least one byte on the house's boards, and the sharp one
+//! beside the stores of those that do not begin past the size. Some writes are made here so that many of them cost as
+//! much as any.
 
 use crate::calls::Calls;
 use std::fmt::{Display, Formatter};
@@ -51,8 +52,8 @@ fn figures_are_right() {
 // ---- Writes that cost much
 
 /// A write to a file of one data block, whose size is far above the span, or which begins past it. The tree grows from
-/// height 0; then, as the end lies above the size and the offset in a hole or past the size, all paths to written bytes and
-/// the inode leaf are made fresh.
+/// height 0; then, as the end lies above the size and the offset in a hole or past the size, all paths to written bytes
+/// and the inode leaf are made fresh.
 struct Steep {
     offset: u64,
     count: u64,
@@ -91,8 +92,8 @@ impl Steep {
         self.offset + self.count
     }
 
-    /// One for each level that the tree grows by, those on the paths to written bytes and, past the end, on that to the last
-    /// byte, and the inode leaf.
+    /// One for each level that the tree grows by, those on the paths to written bytes and, past the end, on that to the
+    /// last byte, and the inode leaf.
     fn fresh_blocks(&self) -> u64 {
         let height = HOUSE.least_height(self.end());
         let with_written = |span: &u64| (self.end() - 1) / span - self.offset / span + 1;
@@ -182,7 +183,7 @@ pub struct Costs {
 }
 
 impl Costs {
-    /// An accepted write of any kind. One of no bytes has no bound.
+    /// An accepted write of any kind. One of no bytes is left out.
     pub fn write(&mut self, board: &[u64], file: u64, stretch: (u64, usize), plan: (u64, &[u64])) {
         let write = Held::of(board, file, stretch, plan);
         if write.count > 0 {

@@ -29,7 +29,7 @@ const FAR_FILES: [u64; 7] = [32, 33, 64, 256, 1 << 32, 1 << 63, u64::MAX];
 /// A sweep through all arguments is one among so many rounds.
 const SWEEP_EVERY: u64 = 400;
 
-/// A write that costs as much as any is made before one among so many.
+/// A write that costs much is made before one among so many.
 const COSTS_EVERY: u64 = 4;
 
 /// What is held against what, and how much of it.

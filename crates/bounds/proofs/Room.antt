@@ -1,4 +1,4 @@
--- A plan slice of twice the board's words holds every plan.
+-- Which plan slices are never refused 8: twice the board's words for every plan, and twice the figure for a write's.
 use mathlib.Core.Path.{_≡_, refl, sym, ap, _∙_}
 use mathlib.Core.Logic.{_≢_, inl, inr}
 use mathlib.Core.Bool.{Bool, true, false, cond}

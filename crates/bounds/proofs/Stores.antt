@@ -1,5 +1,5 @@
 -- How many stores a plan has: W for each fresh block that it takes, and few others.
-use mathlib.Core.Path.{_≡_, refl, _∙_}
+use mathlib.Core.Path.{_≡_, refl, ap, _∙_}
 use mathlib.Core.Logic.{_≢_, _⊎_, inl, inr}
 use mathlib.Core.Bool.{Bool, true, false, cond}
 use mathlib.Core.List.{List, [], _∷_, _++_}
@@ -22,12 +22,12 @@ use Rattle.model.specs.Fresh.{Page, part, partLength, stored, dataPage}
 use Rattle.model.specs.InPlace.{tailBefore, tailWords, hooked, inPlace}
 use Rattle.model.specs.Change.{levels, growing, grownRoot, growthTo, growth, grownInode, singleBlock, singleWord, isTail, emptyTailTo, emptyTail, tail, shadowInside, shadowWithLength, chosenWay, grownPlan, somePlan, writePlan, cleared, lengthPlan}
 use Rattle.model.proofs.Cases.{split, either, length-joined}
-use Rattle.model.proofs.Sums.{sum-le, sum-zero, sum-grow}
+use Rattle.model.proofs.Sums.{sum-le, sum-grow}
 use Rattle.model.proofs.Spans.{span-pos, least-within}
 use Rattle.model.proofs.Shown.{words-pos}
 use Rattle.model.proofs.Perform.{length-stored, address-place}
 use Rattle.model.proofs.Splice.{length-part}
-use Rattle.model.proofs.Tailed.{part-nothing}
+use Rattle.model.proofs.InPlaceStores.{empty-stores}
 use Rattle.model.proofs.Steps.{steps-stores}
 use Rattle.bounds.proofs.Stretches.{ones}
 
@@ -37,11 +37,6 @@ choose-most : (n : ℕ) (s : Store) → length (choose n [] (s ∷ [])) ≤ 1
 unfolding choose
 choose-most zero s = omega arith
 choose-most (suc n) s = omega arith
-
-choose-none : (n : ℕ) (s : Store) → n ≡ 0 → length (choose n [] (s ∷ [])) ≡ 0
-unfolding choose
-choose-none zero s e = refl
-choose-none (suc n) s e = absurd (omega arith)
 
 part-full : (s j n l : ℕ) → s ≤ n - j * s → partLength s j n l ≡ 0
 unfolding partLength
@@ -53,11 +48,6 @@ module _ (W : ℕ) (b : List ℕ) (hook : ℕ → ℕ → ℕ → ℕ) where
   hooked-most h [] c a = omega arith
   hooked-most h (x ∷ new) c a = omega arith
 
-  hooked-none : (h : ℕ) (new : List ℕ) (c a : ℕ) → length new ≡ 0 → length (hooked hook h new c a) ≡ 0
-  unfolding hooked
-  hooked-none h [] c a e = refl
-  hooked-none h (x ∷ new) c a e = absurd (omega arith)
-
   pub words-most : (k n : ℕ) (new : List ℕ) → length (tailWords W b k n new) ≤ W
   unfolding tailWords
   words-most k n new = omega (
@@ -67,21 +57,9 @@ module _ (W : ℕ) (b : List ℕ) (hook : ℕ → ℕ → ℕ → ℕ) where
     ones W,
   )
 
-  words-none : (k n : ℕ) (new : List ℕ) → length new ≡ 0 → length (tailWords W b k n new) ≡ 0
-  unfolding tailWords
-  words-none k n new e = length-joined W _ ∙ sum-zero W _ (λ j l. choose-none (partLength 8 j n (length new)) _ (part-nothing 8 j n (length new) e))
-
   -- nothing is stored where nothing is written
   pub in-place-none : (h k n : ℕ) (new : List ℕ) (c a : ℕ) → length new ≡ 0 → length (inPlace W b hook h k n new c a) ≡ 0
-  unfolding inPlace
-  in-place-none zero k zero new c a e = hooked-none zero new c a e
-  in-place-none zero zero (suc n) new c a e = refl
-  in-place-none zero (suc k) (suc n) new c a e = words-none (suc k) (suc n) new e
-  in-place-none (suc h) k zero new c a e = hooked-none (suc h) new c a e
-  in-place-none (suc h) zero (suc n) new c a e = refl
-  in-place-none (suc h) (suc k) (suc n) new c a e = length-joined W _ ∙ sum-zero W _ (λ j l.
-      in-place-none h (cell W b (suc k) j / W) (suc n - j * span W h) (part (span W h) j (suc n) new) _ (W * suc k + j)
-      (length-part (span W h) j (suc n) new ∙ part-nothing (span W h) j (suc n) (length new) e))
+  in-place-none h k n new c a e = ap length (empty-stores W b hook h k n new c a e)
 
   -- a tree that isn't live gets one pointer
   pub in-place-dead : (h k n : ℕ) (new : List ℕ) (c a : ℕ) → n ≡ 0 → length (inPlace W b hook h k n new c a) ≤ 1

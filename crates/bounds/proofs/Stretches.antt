@@ -10,8 +10,8 @@ use Rattle.model.specs.Tree.{span}
 use Rattle.model.specs.Fresh.{partLength, need}
 use Rattle.model.proofs.Cases.{split}
 use Rattle.model.proofs.Sums.{sum-cong, sum-le, sum-add, sum-zero}
+use Rattle.model.proofs.Splice.{part-nothing}
 use Rattle.model.proofs.Paths.{need-none, need-data, need-node}
-use Rattle.model.proofs.Tailed.{part-nothing}
 
 -- ---- Sums
 

@@ -20,13 +20,17 @@ use Rattle.model.proofs.Cases.{split, either}
 use Rattle.model.proofs.Sums.{sum-le, sum-zero, sum-grow}
 use Rattle.model.proofs.Spans.{span-pos, least-within}
 use Rattle.model.proofs.Trees.{live-none}
+use Rattle.model.proofs.Splice.{part-nothing}
 use Rattle.model.proofs.Paths.{fresh-none, fresh-data, fresh-node, fresh-quiet, need-none, need-data, need-node}
 use Rattle.model.proofs.Built.{length-build, length-build-null}
-use Rattle.model.proofs.Tailed.{part-nothing}
 use Rattle.model.proofs.Descent.{descend-on, descend-stop}
 use Rattle.model.proofs.Levels.{length-levels}
 use Rattle.model.proofs.WayNeeds.{leaf-needs}
 use Rattle.bounds.proofs.Stores.{Low}
+
+-- children take nothing where nothing is written
+needs-none : (W h o l : ℕ) → l ≡ 0 → sum W (λ j. need W h (o - j * span W h) (partLength (span W h) j o l)) ≡ 0
+needs-none W h o l e = sum-zero W _ (λ j p. ap (need W h (o - j * span W h)) (part-nothing (span W h) j o l e) ∙ need-none W h (o - j * span W h))
 
 -- a tail takes no more than fresh paths would
 pub tail-most : (W h n l : ℕ) → tailNeed W h n l ≤ need W h n l
@@ -38,14 +42,7 @@ tail-most W (suc h) (suc n) l =
     let below : sum W (λ j. tailNeed W h (suc n - j * span W h) (partLength (span W h) j (suc n) l)) ≤ sum W (λ j. need W h (suc n - j * span W h) (partLength (span W h) j (suc n) l)) =
     sum-le W _ _ (λ j p. tail-most W h (suc n - j * span W h) (partLength (span W h) j (suc n) l)) in
     elim (split l 0) [
-      | inl z ↦
-          let e : l ≡ 0 = omega arith in
-          omega (
-            arith,
-            below,
-            sum-zero W (λ j. need W h (suc n - j * span W h) (partLength (span W h) j (suc n) l))
-                (λ j p. ap (need W h (suc n - j * span W h)) (part-nothing (span W h) j (suc n) l e) ∙ need-none W h (suc n - j * span W h)),
-          )
+      | inl z ↦ omega (arith, below, needs-none W h (suc n) l (omega arith))
       | inr some ↦ omega (arith, below, need-node W h (suc n) l some)
     ]
 
@@ -98,9 +95,7 @@ module _ (W : ℕ) (pos : 0 < W) (b : List ℕ) where
         let below : ℕ → ℕ = λ j. need W h (o - j * s) (partLength s j o l) in
         let kids : freshBefore W b h k n o l W ≤ sum W below + suc h = children h k n o l (fresh-more h) in
         elim (split l 0) [
-          | inl z ↦
-              let none : sum W below ≡ 0 = sum-zero W below (λ j u. ap (need W h (o - j * s)) (part-nothing s j o l (omega arith)) ∙ need-none W h (o - j * s)) in
-              omega (arith, fresh-node W b h k n o l e)
+          | inl z ↦ omega (arith, fresh-node W b h k n o l e, needs-none W h o l (omega arith))
           | inr some ↦ omega (arith, fresh-node W b h k n o l e, need-node W h o l some)
         ]
   ]

@@ -1,7 +1,7 @@
 -- The stores to existing words when bytes are written at the end of a tree (specs/InPlace.antt): each is hidden, they go to live blocks of the tree, and
 -- where no block is reached twice no address is there twice. All three follow from where the stores go and what bytes they keep; none asks
 -- what `hook` stores, and a null pointer on the way is allowed.
-use mathlib.Core.Path.{_≡_, _∙_}
+use mathlib.Core.Path.{_≡_, refl, _∙_}
 use mathlib.Core.Logic.{inl, inr}
 use mathlib.Core.Bool.{Bool, not, _&&_}
 use mathlib.Core.List.{List, [], _∷_}
@@ -16,14 +16,14 @@ use Rattle.model.specs.Store.{Store, store}
 use Rattle.model.specs.Hidden.{keepsBytes, hiddenUnder}
 use Rattle.model.specs.Fresh.{part, partLength, dataPage}
 use Rattle.model.specs.InPlace.{tailBefore, tailWords, hooked, inPlace}
-use Rattle.model.proofs.Cases.{split, and-both, every-all, or-left, or-right, some-at}
+use Rattle.model.proofs.Cases.{split, joined-none, and-both, every-all, or-left, or-right, some-at}
 use Rattle.model.proofs.Sums.{sum-le, sum-add}
 use Rattle.model.proofs.Counting.{occ-joined}
 use Rattle.model.proofs.Perform.{All, address-block, address-place}
 use Rattle.model.proofs.Addresses.{addresses, all-joined, all-map, occ-addresses-joined, addresses-counted, block-once}
 use Rattle.model.proofs.Trees.{childBlocks}
 use Rattle.model.proofs.Agree.{seen-live}
-use Rattle.model.proofs.Splice.{Small, small-part, splice-left}
+use Rattle.model.proofs.Splice.{Small, length-part, part-nothing, small-part, splice-left}
 use Rattle.model.proofs.Built.{data-page-byte}
 
 not-live : (n : ℕ) → n ≤ 0 → T (not (live n))
@@ -40,6 +40,27 @@ choose-once : (x n : ℕ) (s : Store) → occ x (addresses (choose n [] (s ∷ [
 unfolding occ choose
 choose-once x zero s = omega arith
 choose-once x (suc n) s = omega arith
+
+-- no bytes, no stores
+module _ (W : ℕ) (b : List ℕ) (hook : ℕ → ℕ → ℕ → ℕ) where
+  empty-words : (k n : ℕ) (new : List ℕ) → length new ≡ 0 → tailWords W b k n new ≡ []
+  unfolding tailWords choose
+  empty-words k n new e = joined-none W _ (λ j l. rw (part-nothing 8 j n (length new) e))
+
+  empty-hook : (h : ℕ) (new : List ℕ) (c a : ℕ) → length new ≡ 0 → hooked hook h new c a ≡ []
+  unfolding hooked
+  empty-hook h [] c a e = refl
+  empty-hook h (x ∷ new) c a e = absurd (omega arith)
+
+  pub empty-stores : (h k n : ℕ) (new : List ℕ) (c a : ℕ) → length new ≡ 0 → inPlace W b hook h k n new c a ≡ []
+  unfolding inPlace
+  empty-stores zero k zero new c a e = empty-hook zero new c a e
+  empty-stores zero zero (suc n) new c a e = refl
+  empty-stores zero (suc k) (suc n) new c a e = empty-words (suc k) (suc n) new e
+  empty-stores (suc h) k zero new c a e = empty-hook (suc h) new c a e
+  empty-stores (suc h) zero (suc n) new c a e = refl
+  empty-stores (suc h) (suc k) (suc n) new c a e = joined-none W _ (λ j l. empty-stores h (cell W b (suc k) j / W) (suc n - j * span W h) (part (span W h) j (suc n) new)
+      (c + tailBefore W h (suc n) (length new) j) (W * suc k + j) (length-part (span W h) j (suc n) new ∙ part-nothing (span W h) j (suc n) (length new) e))
 
 module _ (W : ℕ) (b : List ℕ) where
   abbrev Hides : ℕ → ℕ → ℕ → Store → Type 0

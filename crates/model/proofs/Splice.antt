@@ -75,6 +75,11 @@ pub length-part : (s j o : ℕ) (new : List ℕ) → length (part s j o new) ≡
 unfolding part partLength
 length-part s j o new = simp (length-take, length-drop)
 
+-- no part of no bytes
+pub part-nothing : (s j o l : ℕ) → l ≡ 0 → partLength s j o l ≡ 0
+unfolding partLength
+part-nothing s j o l e = omega arith
+
 pub getD-part : (s j o : ℕ) (new : List ℕ) (i : ℕ) → i < length (part s j o new) → getD (part s j o new) i 0 ≡ getD new (j * s - o + i) 0
 unfolding part
 getD-part s j o new i l = getD-take (s - (o - j * s)) (drop (j * s - o) new) i 0 (omega (arith, simp length-take at l)) ∙ getD-drop (j * s - o) new i 0

@@ -22,7 +22,7 @@ use Rattle.model.proofs.Perform.{All}
 use Rattle.model.proofs.Addresses.{joined-at, Stands}
 use Rattle.model.proofs.Trees.{blocks-dead, sound-dead, blocks-null, sound-null, blocks-here, sound-here}
 use Rattle.model.proofs.Agree.{agree, byteAt-null, byteAt-past, byteAt-size, agree-byte, agree-none, agree-child, occ-node, sound-root, aligned-none, aligned-full, aligned-zero}
-use Rattle.model.proofs.Splice.{Small, Cover, splice-in, splice-left, splice-right, length-part, getD-part, small-part, inside, cover-child, choose-pos, part-fits}
+use Rattle.model.proofs.Splice.{Small, Cover, splice-in, splice-left, splice-right, length-part, getD-part, small-part, inside, cover-child, choose-pos, part-fits, part-nothing}
 use Rattle.model.proofs.Paths.{need-none}
 use Rattle.model.proofs.Changed.{Changed, recount, kept, node}
 use Rattle.model.proofs.Built.{Between, held, used, used-add, length-build-null, held-joined, page-byte, build-null-changed}
@@ -59,10 +59,6 @@ pub tailNeed-dead : (W h l : ℕ) → tailNeed W h 0 l ≡ need W h 0 l
 unfolding tailNeed
 tailNeed-dead W zero l = refl
 tailNeed-dead W (suc h) l = refl
-
-pub part-nothing : (s j o l : ℕ) → l ≡ 0 → partLength s j o l ≡ 0
-unfolding partLength
-part-nothing s j o l e = omega arith
 
 tailNeed-nothing : (W h n l : ℕ) → l ≡ 0 → tailNeed W h n l ≡ 0
 unfolding tailNeed

@@ -6,17 +6,17 @@ use Prim.Native.Nat.{ℕ, zero, suc, _+_, _-_, _*_, _/_, _≤_, _<_}
 use native.Mathlib.Omega.{arith}
 use native.Mathlib.Numerals.{sub-one}
 use lib.ListN.{length}
-use Rattle.model.specs.Lists.{joined, choose}
+use Rattle.model.specs.Lists.{joined}
 use Rattle.model.specs.Tree.{span, cell}
 use Rattle.model.specs.Store.{Store, store, laid}
 use Rattle.model.specs.Fresh.{part}
 use Rattle.model.specs.InPlace.{tailBefore, tailWords, hooked, inPlace}
-use Rattle.model.proofs.Cases.{joined-none, length-joined}
+use Rattle.model.proofs.Cases.{length-joined}
 use Rattle.model.proofs.Sums.{sum-next}
-use Rattle.model.proofs.Splice.{length-part}
+use Rattle.model.proofs.InPlaceStores.{empty-stores}
 use Rattle.plans.specs.Laying.{Laid}
 use Rattle.plans.proofs.Laying as Laying
-use Rattle.taking.proofs.Tails.{joined-next, part-none}
+use Rattle.taking.proofs.Tails.{joined-next}
 use Rattle.tails.specs.Stores.{wordStores}
 
 module _ (W : ℕ) (b : List ℕ) (hook : ℕ → ℕ → ℕ → ℕ) where
@@ -56,26 +56,6 @@ module _ (W : ℕ) (b : List ℕ) (hook : ℕ → ℕ → ℕ → ℕ) where
   hook-stores h k zero [] c a dead some = absurd (some refl)
   hook-stores zero k zero (x ∷ new) c a dead some = refl
   hook-stores (suc h) k zero (x ∷ new) c a dead some = refl
-
-  -- no bytes, no stores
-  empty-words : (k n : ℕ) (new : List ℕ) → length new ≡ 0 → tailWords W b k n new ≡ []
-  unfolding tailWords choose
-  empty-words k n new e = joined-none W _ (λ j l. rw (← (length-part 8 j n new), part-none 8 j n new e))
-
-  empty-hook : (h : ℕ) (new : List ℕ) (c a : ℕ) → length new ≡ 0 → hooked hook h new c a ≡ []
-  unfolding hooked
-  empty-hook h [] c a e = refl
-  empty-hook h (x ∷ new) c a e = absurd (omega arith)
-
-  empty-stores : (h k n : ℕ) (new : List ℕ) (c a : ℕ) → length new ≡ 0 → inPlace W b hook h k n new c a ≡ []
-  unfolding inPlace
-  empty-stores zero k zero new c a e = empty-hook zero new c a e
-  empty-stores zero zero (suc n) new c a e = refl
-  empty-stores zero (suc k) (suc n) new c a e = empty-words (suc k) (suc n) new e
-  empty-stores (suc h) k zero new c a e = empty-hook (suc h) new c a e
-  empty-stores (suc h) zero (suc n) new c a e = refl
-  empty-stores (suc h) (suc k) (suc n) new c a e = joined-none W _ (λ j l. empty-stores h (cell W b (suc k) j / W) (suc n - j * span W h) (part (span W h) j (suc n) new)
-      (c + tailBefore W h (suc n) (length new) j) (W * suc k + j) (part-none (span W h) j (suc n) new e))
 
 module _ (W : ℕ) (b : List ℕ) (hook : ℕ → ℕ → ℕ → ℕ) (h k n : ℕ) (new : List ℕ) (c a : ℕ) {p : ℕ} {plan : List ℕ} where
   -- nothing is written

@@ -11,7 +11,7 @@ use Rattle.model.specs.Tree.{span}
 use Rattle.model.specs.Fresh.{part, partLength, need}
 use Rattle.model.specs.InPlace.{tailNeed, tailBefore}
 use Rattle.model.proofs.Sums.{sum-mono, sum-zero}
-use Rattle.model.proofs.Splice.{length-part}
+use Rattle.model.proofs.Splice.{length-part, part-nothing}
 use Rattle.model.proofs.Paths.{need-none}
 use Rattle.model.proofs.Tailed.{tailNeed-dead}
 
@@ -21,8 +21,7 @@ joined-next j f = rw (add-one j)
 
 -- no part of no bytes
 pub part-none : (s j o : ℕ) (new : List ℕ) → length new ≡ 0 → length (part s j o new) ≡ 0
-unfolding partLength
-part-none s j o new e = length-part s j o new ∙ omega arith
+part-none s j o new e = length-part s j o new ∙ part-nothing s j o (length new) e
 
 -- under a pointer that isn't live, a whole fresh tree is taken
 pub need-dead : (W h n l : ℕ) → n ≡ 0 → tailNeed W h n l ≡ need W h 0 l
