@@ -103,7 +103,7 @@ module _ (g : Layout) (fit : Fits g) (b b' : List ℕ) (ok : T (word_count_sound
   live_once : (q : ℕ) → occ q (1 ∷ (tabulate g.leaves (λ l. 2 + l) ++ [])) ≤ 1
   unfolding occ
   live_once q = elim (decide q 1) [
-    | inl e ↦ rw e (omega (arith, one_same 1, occ_append 1 (tabulate g.leaves (λ l. 2 + l)) [], occ_tabulate 1 g.leaves (λ l. 2 + l), sum_none 1 g.leaves (λ l. 2 + l) (λ j l. omega arith)))
+    | inl e ↦ rw e (grind (arith, one_same 1, occ_append 1 (tabulate g.leaves (λ l. 2 + l)) [], occ_tabulate 1 g.leaves (λ l. 2 + l), sum_none 1 g.leaves (λ l. 2 + l) (λ j l. omega arith)))
     | inr d ↦ omega (arith, one_other q 1 d, occ_append q (tabulate g.leaves (λ l. 2 + l)) [], occ_tabulate q g.leaves (λ l. 2 + l), sum_once q g.leaves (λ l. 2 + l) (λ i j u v. omega arith))
   ]
 

@@ -126,7 +126,7 @@ module _ (W : ℕ) (pos : 0 < W) (b b' : List ℕ) {fresh : ℕ → ℕ} {lim up
         | inr new_kid ↦ (
           λ u v. absurd (false≢true (sym (untouched_dead W h (x / W) (n - j * s) (o - j * s) (part_length s j o (length new)) v (omega arith)) ∙ (rw (length_part s j o new) at new_kid.0.test))),
           rw (new_kid.1, mul-div_cancel_left (top h (x / W) (n - j * s) (o - j * s) (part s j o new) (c + fresh_before W b h k n o (length new) j)) pos, ← (length_part s j o new))
-              (laid_holes new_kid.0 (λ l. omega (arith, past (omega arith)))),
+              (laid_holes {h = h} new_kid.0 (λ l. omega (arith, past (omega arith)))),
         )
       ]
 
@@ -188,7 +188,7 @@ module _ (W : ℕ) (pos : 0 < W) (b b' : List ℕ) {fresh : ℕ → ℕ} {lim up
       (and_both (p (top (suc h) k n o new c)) (all p (path W b' h y (m w some fits past - 1))) (ok _ (omega (arith, fresh_pos W b (suc h) k n o (length new) w.test)) (omega (arith, w.room_for, fresh_pos W b (suc h) k n o (length new) w.test)))
       (elim (last_either w some fits past) [
         | inl null ↦ rw (null.1, path_null W pos b' h (m w some fits past - 1)) tt
-        | inr laid ↦ rw laid.1 (laid_path p first ok laid.0 (omega arith) (kid_some w some fits past) (kid_fits w some fits past) (kid_past w some fits past))
+        | inr laid ↦ rw laid.1 (laid_path p first ok {h = h} laid.0 (omega arith) (kid_some w some fits past) (kid_fits w some fits past) (kid_past w some fits past))
       ]))
 
   -- and the walk to it still ends at a block, if it did
@@ -202,6 +202,6 @@ module _ (W : ℕ) (pos : 0 < W) (b b' : List ℕ) {fresh : ℕ → ℕ} {lim up
       let e : (n - 1) % s ≡ n' - 1 = kid_last w some fits past in
       elim (last_either w some fits past) [
         | inl null ↦ absurd (rw (null.0, walk_null W b h n' ((n - 1) % s)) at t)
-        | inr laid ↦ rw (laid.1, e) (laid_arrives (m' - (n - 1) / s * s) laid.0 (kid_some w some fits past) (kid_fits w some fits past)
+        | inr laid ↦ rw (laid.1, e) (laid_arrives {h = h} (m' - (n - 1) / s * s) laid.0 (kid_some w some fits past) (kid_fits w some fits past)
             (kid_past w some fits past) (omega arith) (rw e at t))
       ]
