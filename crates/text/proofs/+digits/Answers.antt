@@ -1,11 +1,7 @@
-use Prim.Native.Nat.{ℕ}
 use Rattle.text.proofs.Numbers.{only, single, last}
 use Rattle.text.proofs.+digits.Goals as goal
 
 -- `digits` calls itself with one digit less to write.
-
--- MEASURE: abbrev μ : Measures 1 kinds.ps ℕ
--- μ κs a = a.1.1.0
 
 pub returns-then-most-eq0 : goal.returns-then-most-eq0
 returns-then-most-eq0 t c =
