@@ -41,6 +41,11 @@ module _ {W top : ℕ} {b m : List ℕ} {h k n : ℕ} where
       pub node : {ok' : Bool} {m' : List ℕ} → ok ≡ true → h ≢ 0 → Marked (every W (kid_sound W top b (h - 1) k n)) (joined W (child_blocks W b (h - 1) k n)) m₀ ok' m' → Crawled W top b h k n m ok' m'
       node z f d = here (Marking.both c z (Marking.same (sound_children W b k n top h f) (blocks_children W b k n h f) d))
 
+      -- the same by a width that is W
+      pub node_by : {w : ℕ} {ok' : Bool} {m' : List ℕ} → w ≡ W → ok ≡ true → h ≢ 0
+          → Marked (every w (kid_sound W top b (h - 1) k n)) (joined w (child_blocks W b (h - 1) k n)) m₀ ok' m' → Crawled W top b h k n m ok' m'
+      node_by e z f d = node z f (rw e at d)
+
       -- a block right above data
       pub low : {ok' : Bool} {m' : List ℕ} → ok ≡ true → h ≡ 1 → Beneath W top b 0 k n m₀ ok' m' → Crawled W top b h k n m ok' m'
       low z e d = let q : h - 1 ≡ 0 = omega arith in node z (λ f. omega arith) (rw q d.crawled)

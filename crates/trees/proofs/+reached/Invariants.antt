@@ -1,0 +1,5 @@
+use Prim.Native.Nat.{◌-◌}
+use Rattle.trees.proofs.+reached.Given as goal
+
+abbrev pub decreases-reached : goal.decreases-reached
+decreases-reached l = l.h
