@@ -10,7 +10,7 @@ use lib.Dec.{T}
 use Rattle.model.specs.declared.Inode.{Inode}
 use Rattle.model.specs.Layout.{Layout, Fits}
 use Rattle.model.specs.Tree.{span, least, cell}
-use Rattle.model.specs.Board.{free, accepted, live_blocks, block_count, root, size}
+use Rattle.model.specs.Board.{free, accepted, live_blocks, block_count}
 use Rattle.model.specs.Store.{Store, performed, stores}
 use Rattle.model.specs.Plan.{plan}
 use Rattle.model.specs.Fresh.{fresh_need, need}

@@ -1,4 +1,5 @@
 // Types that contracts and code share. What they mean is defined in specs/.
+#![tactic(auto)]
 
 // Why a call is refused. specs/Answers.antt has each fault's number.
 #[derive(Drop)]
@@ -52,7 +53,7 @@ pub struct VisitedAnswer {
 }
 
 // A file's inode: the address of the inode pointer that leads to it, the address of its root word, its root and its size.
-#[derive(Drop)]
+#[derive(Clone, Copy)]
 pub struct Inode {
     pub pointer: u64,
     pub at: u64,
@@ -61,7 +62,7 @@ pub struct Inode {
 }
 
 // A kind of board; specs/Layout.antt has each kind's figures. Each kind has calls of its own.
-#[derive(Drop)]
+#[derive(Clone, Copy)]
 pub enum Kind {
     // document 01's: blocks of 8 words
     House,
