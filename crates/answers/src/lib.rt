@@ -1,4 +1,6 @@
 // Answers as numbers.
+#![tactic(auto)]
+
 ghost use Rattle.std.specs.Prelude.{◌≡◌, ◌<◌, ◌^◌};
 ghost use Rattle.model.specs.Answers.{number, signed, counted};
 

@@ -114,11 +114,27 @@ pub least_rule : LeastRule
 least_rule e l = sheet_height_law e ∙ rw (le-leb e 32768 l)
 
 -- what the code answers in the band of height h, and off the sheet
-pub in_band : (h e : ℕ) → h ≤ 3 → first 8 h ≤ e → e ≤ span 8 h → e ≤ 32768 → h ≡ sheet_height e
-in_band h e l from to most = least_is 8 (omega arith) h 3 e l from to ∙ sym (least_rule e most)
+in_band : (h e : ℕ) → h ≤ 3 → first 8 h ≤ e → e ≤ span 8 h → e ≤ 32768 → sheet_height e ≡ h
+in_band h e l from to most = least_rule e most ∙ sym (least_is 8 (omega arith) h 3 e l from to)
 
-pub off_sheet : (e : ℕ) → 32768 < e → 0 ≡ sheet_height e
-off_sheet e more = sym (sheet_height_law e ∙ rw (lt-leb e 32768 more))
+pub in_first : (e : ℕ) → e ≤ 64 → sheet_height e ≡ 0
+unfolding first span
+in_first e to = in_band 0 e (omega arith) (omega arith) (omega arith) (omega arith)
+
+pub in_second : (e : ℕ) → 64 < e → e ≤ 512 → sheet_height e ≡ 1
+unfolding first span
+in_second e from to = in_band 1 e (omega arith) (omega arith) (omega arith) (omega arith)
+
+pub in_third : (e : ℕ) → 512 < e → e ≤ 4096 → sheet_height e ≡ 2
+unfolding first span
+in_third e from to = in_band 2 e (omega arith) (omega arith) (omega arith) (omega arith)
+
+pub in_fourth : (e : ℕ) → 4096 < e → e ≤ 32768 → sheet_height e ≡ 3
+unfolding first span
+in_fourth e from to = in_band 3 e (omega arith) (omega arith) (omega arith) (omega arith)
+
+pub off_sheet : (e : ℕ) → 32768 < e → sheet_height e ≡ 0
+off_sheet e more = sheet_height_law e ∙ rw (lt-leb e 32768 more)
 
 pub sheet_rule : SheetRule
 sheet_rule e l = rw (least_rule e l) (least_reaches 8 (omega arith) 3 e (rw house_spans.3 l), least_least 8 (omega arith) 3 e)

@@ -1,5 +1,7 @@
 // The text of a listing. Each function writes at position p of a buffer and answers the position after the text.
 // A byte off the buffer is not stored. No position wraps: each function requires that the most bytes it can write end below 2^64.
+#![tactic(auto)]
+
 ghost use Rattle.std.specs.Prelude.{[], ◌∷◌, ◌++◌, ◌+◌, ◌<◌, ◌^◌, length};
 ghost use Rattle.model.specs.Lister.{digits, decimal, field, line, word_blocks, word_free, word_file, word_size, word_height, word_held, word_refused};
 ghost use Rattle.text.specs.Wrote.{Wrote, entry};

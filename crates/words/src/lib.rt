@@ -1,5 +1,7 @@
 // Words of a board, bytes of a word, and words of bytes. A word is read and stored totally, as in the definitions: off the slice it reads 0, and a store
 // there does nothing.
+#![tactic(auto)]
+
 ghost use Rattle.std.specs.Prelude.{◌≡◌, ◌++◌, ◌+◌, ◌-◌, ◌*◌, ◌/◌, ◌%◌, ◌^◌, ◌≤◌, ◌<◌, length, get_or, drop, set};
 ghost use Rattle.model.specs.Words.{byte_of, word_of, words_of};
 ghost use Rattle.model.specs.Tree.{cell};

@@ -12,7 +12,7 @@ overflow_cast-result c = done_fits c.requires c.in-Done.is
 pub overflow_cast-result-in-Refused : goal.overflow_cast-result-in-Refused
 overflow_cast-result-in-Refused c = record { sfits = refused_small _ c.number.ensures }
 
--- whichever is taken from the other, so that a wrong sign is refused by `returns-2`
+-- whichever is taken from the other, so that a wrong sign is refused by `returns-in-Refused`
 pub overflow_sub-result : goal.overflow_sub-result
 overflow_sub-result c = let s = refused_small _ c.number.ensures in simp (to_z_pos w64 s, +ℤ_idl) (omega (arith, s, negated_fits _ s))
 

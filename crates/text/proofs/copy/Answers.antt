@@ -1,4 +1,3 @@
-use Prim.Native.Nat.{◌-◌}
 use native.Mathlib.Omega.{arith}
 use Rattle.text.proofs.Writing.{none, kept, copied, copied_all}
 use Rattle.text.proofs.copy.Goals as goal
