@@ -1,6 +1,8 @@
 // Trees of blocks: the walk to a byte, the crawl that marks live blocks, and their count. A tree is (h, k, n), as in the
 // definitions: its height, its block, and how many of its bytes lie below the file's size. A block has 2 ^ bits words. Functions here take
 // the three as numbers, which stay in registers.
+#![tactic(auto)]
+
 ghost use Rattle.std.specs.Prelude.{◌≡◌, [], ◌∷◌, ◌%◌, ◌^◌, ltb};
 ghost use Rattle.model.specs.Tree.{ending, walk};
 ghost use Rattle.model.specs.Board.{root_walk};
@@ -11,7 +13,7 @@ use model::WalkEnd;
 use words::{block_of, cell, low_of, put, width, word};
 
 // A tree (h, k, n), as functions of many arguments take it.
-#[derive(Drop)]
+#[derive(Clone, Copy)]
 pub struct Tree {
     pub height: u64,
     pub block: u64,

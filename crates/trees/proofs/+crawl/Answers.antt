@@ -1,13 +1,7 @@
 use mathlib.Core.Path.{refl, ◌∙◌}
-use mathlib.Core.Bool.{Bool}
-use mathlib.Core.List.{List}
-use Prim.Native.Nat.{ℕ, ◌-◌, ◌^◌}
+use Prim.Native.Nat.{◌-◌, ◌^◌}
 use native.Mathlib.Omega.{arith}
 use native.Mathlib.Nat.{mul-le-mul}
-use Rattle.model.specs.Lists.{every, joined}
-use Rattle.model.proofs.Trees.{child_blocks}
-use Rattle.trees.specs.Marks.{Marked}
-use Rattle.trees.specs.Trees.{Crawled}
 use Rattle.trees.proofs.Marking
 use Rattle.trees.proofs.Crawling
 use Rattle.trees.proofs.Reaching.{lower, lowest}

@@ -1,4 +1,3 @@
-use Prim.Native.Nat.{◌-◌}
 use Rattle.trees.proofs.+reached.Given as goal
 
 abbrev pub decreases-reached : goal.decreases-reached
