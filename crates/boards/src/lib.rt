@@ -1,5 +1,7 @@
 // A board of some kind: where its words stand, a file's inode among them, and whether its word count, its trailer and its spare inode pointers are as they
 // must be.
+#![tactic(auto)]
+
 ghost use Rattle.std.specs.Prelude.{◌≡◌, ◌+◌, ◌-◌, ◌^◌, ◌≤◌, ◌<◌, length, get_or, eqb};
 ghost use Rattle.model.specs.Lists.{every};
 ghost use Rattle.model.specs.Layout.{layout_of};

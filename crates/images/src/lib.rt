@@ -1,4 +1,6 @@
 // A board image: eight bytes to a word, byte 0 first.
+#![tactic(auto)]
+
 ghost use Rattle.std.specs.Prelude.{◌≤◌, length};
 ghost use Rattle.images.specs.Images.{Loaded};
 

@@ -1,4 +1,6 @@
 // The figures of a kind of board, as numbers.
+#![tactic(auto)]
+
 ghost use Rattle.std.specs.Prelude.{◌≡◌, ◌*◌, ◌/◌, ◌%◌, ◌^◌, ◌≤◌, ◌<◌};
 ghost use Rattle.model.specs.Layout.{layout_of};
 ghost use Rattle.model.specs.Tree.{least};

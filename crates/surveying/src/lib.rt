@@ -1,4 +1,6 @@
 // Whether a board is accepted, and has a file; which of its blocks are live, and which are free.
+#![tactic(auto)]
+
 ghost use Rattle.std.specs.Prelude.{◌≡◌, [], ◌∷◌, ◌-◌, ◌≤◌, length, replicate};
 ghost use Rattle.model.specs.Lists.{tabulate, joined, every, pick_from};
 ghost use Rattle.model.specs.Layout.{layout_of, files};

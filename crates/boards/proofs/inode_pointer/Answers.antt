@@ -1,0 +1,7 @@
+use mathlib.Core.Path.{◌∙◌}
+use Rattle.model.specs.Board.{inode_block, inode_pointer}
+use Rattle.boards.proofs.inode_pointer.Goals as goal
+
+pub returns : goal.returns
+unfolding inode_pointer inode_block
+returns c = c.cell.ensures ∙ rw (c.block_in-k.ensures, c.trailer.ensures, c.bits.ensures.is)
