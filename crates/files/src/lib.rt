@@ -1,4 +1,6 @@
 // The bytes of a file, block by block.
+#![tactic(auto)]
+
 ghost use Rattle.std.specs.Prelude.{◌≡◌, ◌+◌, ◌*◌, ◌^◌, ◌≤◌, min, length};
 ghost use Rattle.model.specs.Tree.{shown};
 ghost use Rattle.model.specs.declared.WalkEnd.TheVariants.{Block};

@@ -1,5 +1,7 @@
 // The calls that read a board: check, free count, size, read, and the walk to a byte. Each answers what the definition of its name answers, on all
 // inputs; a refusal leaves the caller's buffer as it was. Those named `published_` are of boards with the published block, which have no walk as a call.
+#![tactic(auto)]
+
 ghost use Rattle.std.specs.Prelude.{◌≡◌};
 ghost use Rattle.model.specs.Layout.{house, published, layout_of};
 ghost use Rattle.model.specs.Board.{walk_to};
