@@ -1,5 +1,7 @@
 // Fresh trees: the blocks on all paths to written bytes, and where these begin past the size, on the path to the last byte below it, laid into a plan.
 // A block has 2 ^ bits words. `board` is read with the growth `grown` performed; `free` lists the free blocks; `taken` counts those taken.
+#![tactic(auto)]
+
 ghost use Rattle.std.specs.Prelude.{◌≡◌, true, ◌+◌, ◌*◌, ◌^◌, ◌≤◌, length};
 ghost use Rattle.trees.specs.Trees.{Reach};
 ghost use Rattle.plans.specs.Onto.{Pointers};

@@ -8,7 +8,7 @@ use borrow.Author.Tests.{ltb-true, ltb-false}
 use Rattle.model.specs.declared.Inode.{Inode}
 use Rattle.model.specs.Layout.{Layout}
 use Rattle.model.specs.Tree.{live, span, least}
-use Rattle.model.specs.Board.{greatest, size}
+use Rattle.model.specs.Board.{greatest}
 use Rattle.model.specs.Change.{growing}
 use Rattle.model.proofs.Cases.{true_right}
 use Rattle.model.proofs.Spans.{least_within, least_above}

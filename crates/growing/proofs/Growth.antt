@@ -10,7 +10,6 @@ use lib.ListN.{length, get_or}
 use Rattle.model.specs.Lists.{tabulate}
 use Rattle.model.specs.declared.Inode.{Inode}
 use Rattle.model.specs.Layout.{Layout}
-use Rattle.model.specs.Board.{root}
 use Rattle.model.specs.Store.{store}
 use Rattle.model.specs.Fresh.{Page}
 use Rattle.model.specs.Change.{level_page, level_below, levels, level_top, growth_to}

@@ -1,4 +1,6 @@
 // Way 2 of planning a write, growth: whether it comes first, and its plan. The names of arguments are those of `taking`.
+#![tactic(auto)]
+
 ghost use Rattle.std.specs.Prelude.{◌≡◌, ◌+◌, ◌-◌, ◌*◌, ◌/◌, ◌%◌, ◌^◌, ◌≤◌, ◌<◌};
 ghost use Rattle.model.specs.Layout.{layout_of};
 ghost use Rattle.model.specs.Change.{levels, level_top, growth_to, growing};

@@ -1,4 +1,6 @@
 // Plans: pairs of address and value in a lent slice. A pair off the slice is not stored, so a planner that is run on an empty slice only counts.
+#![tactic(auto)]
+
 ghost use Rattle.std.specs.Prelude.{◌≡◌, [], ◌∷◌, ◌-◌, ◌^◌, ◌≤◌, ◌<◌, get_or};
 ghost use Rattle.model.specs.Tree.{cell, link};
 ghost use Rattle.model.specs.Store.{store, barrier, laid};
@@ -70,7 +72,7 @@ pub struct Count {
 
 // Growth that is planned and not performed yet: `levels` fresh blocks over block `below`, the first free ones, and the root word at address `at`. `base`
 // is how many pairs of the plan then stand for no fresh block.
-#[derive(Drop)]
+#[derive(Clone, Copy)]
 pub struct Grown {
     pub below: u64,
     pub levels: u64,

@@ -1,5 +1,7 @@
 // The shadows: a write within the size, committed at one pointer, and one that ends past it, committed at the inode pointer. The names of arguments are
 // those of `taking`.
+#![tactic(auto)]
+
 ghost use Rattle.std.specs.Prelude.{◌≡◌, [], ◌∷◌, ◌+◌, ◌*◌, ◌^◌, ◌≤◌, ◌<◌, length};
 ghost use Rattle.model.specs.Layout.{layout_of};
 ghost use Rattle.model.specs.Tree.{span};
@@ -18,7 +20,7 @@ use trees::{Tree, span};
 use words::{block_of, low_of, minus, start_of, width};
 
 // Where bytes are written: at `offset` of the file with this inode, on a board of some kind.
-#[derive(Drop)]
+#[derive(Clone, Copy)]
 pub struct Target {
     pub kind: Kind,
     pub inode: Inode,

@@ -1,6 +1,8 @@
 // Writing at the end of a file in place: stores to words that exist. The names of arguments are those of `taking`; n is both the end of the tree's
 // visible bytes and the place where `new` is written. A block has 2 ^ bits words. A loop over children of s bytes each goes from child n / s to the first
 // that gets no byte: those before and behind get none.
+#![tactic(auto)]
+
 ghost use Rattle.std.specs.Prelude.{◌≡◌, ◌+◌, ◌*◌, ◌^◌, ◌≤◌, ◌<◌, length};
 ghost use Rattle.model.specs.InPlace.{tail_need, walk_live};
 ghost use Rattle.trees.specs.Trees.{Reach};

@@ -1,4 +1,6 @@
 // A single word, the tail way, and the choice among ways 4 to 6; `shadows` has the other two. The names of arguments are those of `taking`.
+#![tactic(auto)]
+
 ghost use Rattle.std.specs.Prelude.{◌≡◌, ◌&&◌, ◌+◌, ◌*◌, ◌/◌, ◌%◌, ◌^◌, ◌<◌, eqb};
 ghost use Rattle.model.specs.Layout.{layout_of};
 ghost use Rattle.model.specs.InPlace.{at_block, walk_live};

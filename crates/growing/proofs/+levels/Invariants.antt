@@ -1,0 +1,4 @@
+use Rattle.growing.proofs.+levels.Given as goal
+
+abbrev pub decreases-levels : goal.decreases-levels
+decreases-levels l = l.d

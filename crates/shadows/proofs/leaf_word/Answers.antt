@@ -1,0 +1,31 @@
+use borrow.Author.Tests.{eq-eqb, ne_eqb}
+use mathlib.Core.Path.{sym, ◌∙◌}
+use Prim.Native.Nat.{◌+◌, ◌%◌, ◌^◌}
+use native.Mathlib.Omega.{arith}
+use native.Mathlib.Nat.{mod-lt}
+use lib.Pow.{pow_pos}
+use Rattle.words.proofs.Widths as Widths
+use Rattle.model.specs.Change.{replaced, copied_leaf, leaf_page}
+use Rattle.shadows.proofs.leaf_word.Goals as goal
+
+pub returns-then-j-slot : goal.returns-then-j-slot
+unfolding leaf_page copied_leaf replaced
+returns-then-j-slot c = let a = c.args in sym (rw (eq-eqb a.j (a.inode.at % 2 ^ a.bits) (c.if-j-slot.true ∙ c.low_of-slot.ensures)))
+
+pub overflow_add-slot : goal.overflow_add-slot
+overflow_add-slot c = omega (arith, c.low_of-slot.ensures, mod-lt c.args.inode.at (pow_pos c.args.bits), Widths.most c.requires.width)
+
+pub returns-then-j-slot-2 : goal.returns-then-j-slot-2
+unfolding leaf_page copied_leaf replaced
+returns-then-j-slot-2 c = let a = c.args in let e = c.low_of-slot.ensures in
+    sym (rw (ne_eqb a.j (a.inode.at % 2 ^ a.bits) (rw e at c.if-j-slot.false), eq-eqb a.j (a.inode.at % 2 ^ a.bits + 1) (rw e at c.if-j-slot-2.true)))
+
+pub returns : goal.returns
+unfolding leaf_page copied_leaf replaced
+returns c = let a = c.args in let e = c.low_of-slot.ensures in
+    sym (rw (
+      ne_eqb a.j (a.inode.at % 2 ^ a.bits) (rw e at c.if-j-slot.false),
+      ne_eqb a.j (a.inode.at % 2 ^ a.bits + 1) (rw e at c.if-j-slot-2.false),
+      c.cell_on.ensures,
+      c.block_of.ensures,
+    ))

@@ -1,0 +1,15 @@
+use Prim.Native.Nat.{◌-◌, ◌^◌}
+use Rattle.plans.specs.Onto.{onto}
+use Rattle.taking.proofs.Ends.{Along}
+use Rattle.tails.specs.Stores.{hooks}
+use Rattle.tails.proofs.Padding as Padding
+use Rattle.tails.proofs.+in_place.Given as goal
+
+abbrev pub decreases-in_place : goal.decreases-in_place
+decreases-in_place l = l.end.tree.height
+
+abbrev pub invariant-loop-j : goal.invariant-loop-j
+invariant-loop-j l = Along (λ i. Padding.Done (2 ^ l.bits) (onto (2 ^ l.bits) l.free l.board l.grown) (hooks (2 ^ l.bits) l.free) (l.h - 1) l.k l.n l.l l.new l.c l.p l.initial.plan l.plan l.taken l.q i) l.s l.n l.w l.j
+
+abbrev pub decreases-loop-j : goal.decreases-loop-j
+decreases-loop-j l = l.w - l.j
