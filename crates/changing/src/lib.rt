@@ -1,5 +1,7 @@
 // The calls that change a file: write and length change. Each reads the board and writes a plan; it stores nothing on the board. A plan is first worked
 // out on an empty part of the slice, for refusals 7 and 8, and then laid. Those named `published_` are of boards with the published block.
+#![tactic(auto)]
+
 ghost use Rattle.model.specs.Layout.{house, published, layout_of};
 ghost use Rattle.model.specs.Calls.{write, set_length};
 ghost use Rattle.kinds.specs.Figures.{Bits};

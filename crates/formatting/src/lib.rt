@@ -1,4 +1,6 @@
 // Format: plans 32 empty files on a board of some kind. It stores nothing itself. `published_format` is of boards with the published block.
+#![tactic(auto)]
+
 ghost use Rattle.std.specs.Prelude.{◌≡◌, [], ◌∷◌, ◌+◌, ◌*◌, replicate};
 ghost use Rattle.model.specs.Layout.{house, published, layout_of};
 ghost use Rattle.model.specs.Store.{laid};

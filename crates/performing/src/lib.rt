@@ -1,4 +1,6 @@
 // The calls that store: perform, on each kind of board.
+#![tactic(auto)]
+
 ghost use Rattle.std.specs.Prelude.{◌≡◌, ◌||◌, ◌*◌, ◌≤◌, length, take, ltb};
 ghost use Rattle.model.specs.Lists.{all};
 ghost use Rattle.model.specs.Layout.{house, published, layout_of};

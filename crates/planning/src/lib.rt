@@ -1,5 +1,7 @@
 // Plans of writes and length changes, once no refusal up to 6 turns the call away. `free` lists the free blocks; `pages` has room for a page on each level
 // of a tree.
+#![tactic(auto)]
+
 ghost use Rattle.std.specs.Prelude.{◌≤◌};
 ghost use Rattle.model.specs.Layout.{layout_of};
 ghost use Rattle.model.specs.Board.{greatest};
@@ -71,7 +73,7 @@ fn plan_grown(
 }
 
 // A write as it is asked for: at `offset` of a file, on a board of some kind.
-#[derive(Drop)]
+#[derive(Clone, Copy)]
 pub struct Request {
     pub kind: Kind,
     pub file: u64,
