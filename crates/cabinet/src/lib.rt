@@ -1,4 +1,6 @@
 // The calls of the cabinet's C program, on a board image held as bytes. Each answers what the definition of its name answers, on all inputs.
+#![tactic(auto)]
+
 ghost use Rattle.std.specs.Prelude.{◌≡◌};
 ghost use Rattle.model.specs.Layout.{house};
 ghost use Rattle.model.specs.Cabinet.{image_check, image_size};

@@ -1,5 +1,7 @@
 // The calls for hosts that hold a board as words. Each answers what the definition of its name answers, as C gets it, and leaves what that leaves, on all
 // inputs.
+#![tactic(auto)]
+
 ghost use Rattle.std.specs.Prelude.{◌≡◌};
 ghost use Rattle.model.specs.Layout.{house};
 ghost use Rattle.model.specs.Board.{walk_to};

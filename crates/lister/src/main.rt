@@ -1,17 +1,41 @@
 // Prints what the board image on standard input holds: the blocks, and each file that is not empty. A refused image prints only its refusal.
+#![tactic(auto)]
 
-fn main() {
+ghost use Rattle.std.specs.Prelude.{◌≤◌, length};
+
+use std::io;
+use std::io::Read;
+
+// Reads until the buffer is full, the input ends or a read fails. The answer is how many bytes stand at the buffer's start.
+fn read_full<R: Read>(input: &mut R, buf: &mut [u8]) -> usize
+    ensures { result ≤ length buf.new }
+{
+    let mut done = 0;
+    while done < buf.len() {
+        let Ok(n) = input.read(&mut buf[done..]) else {
+            break;
+        };
+        if n == 0 {
+            break;
+        }
+        done += n;
+    }
+    done
+}
+
+fn main(rt: HostRuntime) -> io::Result<()> {
     // One byte more than the largest image has, so that a larger one is seen.
     let mut image = [0u8; 65537];
+    let mut input = rt.stdin();
     // A read of no bytes answers whether there is an input.
-    if libc::read(0, &mut image[..0]) < 0 {
-        os::fail(b"lister: standard input");
-        return;
+    if let Err(e) = input.read(&mut image[..0]) {
+        return eprintln!(rt; "lister: standard input: {e}");
     }
-    let n = io::read_full(0, &mut image);
+    let n = read_full(&mut input, &mut image);
     let mut text = [0u8; 4096];
     let length = listing::list(&image[..n], &mut text);
-    if !io::write_all(1, &text[..length]) {
-        os::fail(b"lister: standard output");
+    if let Err(e) = rt.write_all(&text[..length]) {
+        return eprintln!(rt; "lister: standard output: {e}");
     }
+    Ok(())
 }

@@ -1,4 +1,6 @@
 // What the lister program prints for a board image.
+#![tactic(auto)]
+
 ghost use Rattle.std.specs.Prelude.{◌+◌, ◌<◌, ◌^◌};
 ghost use Rattle.model.specs.Lists.{joined};
 ghost use Rattle.model.specs.Layout.{house};

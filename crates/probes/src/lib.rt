@@ -1,5 +1,7 @@
 // The calls of published boards as C functions, for tests and benchmarks from outside: N11 of document 02 gives these boards no C forms, so no header
 // names them and no program is to link them. They stand apart from `hosts`, so that the archives for C are compiled for the house's width alone.
+#![tactic(auto)]
+
 ghost use Rattle.std.specs.Prelude.{◌≡◌};
 ghost use Rattle.model.specs.Layout.{published};
 ghost use Rattle.model.specs.Answers.{signed};
