@@ -140,7 +140,7 @@ def main():
     seed, count = seed_and_count(200)
     rnd = random.Random(seed)
     if not os.path.exists(LISTER):
-        sys.exit('lister: target/bin/lister is not built (rt check lister)')
+        sys.exit('lister: target/bin/lister is not built (tests/lister/build.sh)')
     image, greatest = image_of(e2_board(random_words(rnd, 16))), image_of(many_shapes(rnd))
     listed("E13's board", image, E13)
     listed_in_pieces("E13's board in pieces", image, E13, [1, 8, 13, 700, 1023])

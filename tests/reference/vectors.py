@@ -27,56 +27,51 @@ FAULTS = ['', 'WordCount', 'Trailer', 'Damaged', 'FileNumber', '', 'End', 'FreeB
 # Spare words in the leaves and in the inode pointer block, heights 0 and 1, as with the published block, but short lists of words.
 NARROW = B.Layout(width=20, leaves=4, inodes=8, mark=3, blocks=512, most=3200, tallest=1, span=[160, 3200], bands=[(0, 160, 0), (161, 3200, 1)])
 NARROW_SIZES = [0, 1, 7, 8, 159, 160, 161, 320, 325, 500, 1600, 3199, 3200]
-HEAD = '''use mathlib.Core.Path.{_≡_, refl}
-use mathlib.Core.Bool.{Bool, true, false, not, _&&_}
-use mathlib.Core.List.{List, [], _∷_, _++_}
-use Prim.Native.Nat.{ℕ, _+_}
-use lib.ListN.{replicate, getD}
-use lib.IntN.{ℤ, pos, negsuc}
-use lib.Dec.{eqb}
-use Rattle·model.specs.declared.Answer.{Answer}
-use Rattle·model.specs.declared.Answer.the-variants.{Done, Refused}
-use Rattle·model.specs.declared.Fault.the-variants.{WordCount, Trailer, Damaged, FileNumber, End, FreeBlocks, PlanLength, PairCount, Address}
-use Rattle·model.specs.declared.WalkEnd.{WalkEnd}
-use Rattle·model.specs.declared.WalkEnd.the-variants.{Block, Hole}
-use Rattle·model.specs.Lists.{tabulate, occ}
-use Rattle·model.specs.Layout.{Layout, house, published}
-use Rattle·model.specs.Tree.{least}
-use Rattle·model.specs.Board.{greatest, inodeOf, walkTo, contents, fileSound, treesSound}
-use Rattle·model.specs.Store.{store, flat, laid}
-use Rattle·model.specs.Plan.{pairs}
-use Rattle·model.specs.Change.{growth, writePlan, lengthPlan}
-use Rattle·model.specs.Format.{formatPlan}
-use Rattle·model.specs.Hidden.{hidden}
-use Rattle·model.specs.GivenUp.{lengthGives, writeGives}
-use Rattle·model.specs.Calls.{checkAnswer, freeCountAnswer, sizeAnswer, readAnswer, readBuffer, Planned, lowest, write, setLength, format, performAnswer, performBoard}
-use Rattle·model.specs.Cabinet.{imageCheck, imageSize, imageRead, imageReadBuffer}
-use Rattle·model.specs.Lister.{listing}
-use Rattle·model.proofs.Computing.{computes}
-use Rattle·examples.specs.Examples.{sameList, sameAnswer}
-use Rattle·bands.specs.Sheet.{row, sheet, lies, heightIn, sheetHeight}
-use Rattle·bands.specs.Planned.{wayBy, growthBy, grownInodeBy, somePlanBy, writePlanBy}
-use Rattle·model.specs.Cut.{planOf}
-use Rattle·bounds.specs.Bounds.{t, u, v, mostBlocks, mostStores, sharpStores, storeCount}
+HEAD = '''use Rattle.std.specs.Prelude.{◌≡◌, Bool, true, false, not, ◌&&◌, List, [], ◌∷◌, ◌++◌, ℕ, ◌+◌, replicate, get_or, ℤ, pos, negsuc, eqb}
+use Rattle.std.proofs.Common.{refl}
+use Rattle.model.specs.declared.Answer.{Answer}
+use Rattle.model.specs.declared.Answer.TheVariants.{Done, Refused}
+use Rattle.model.specs.declared.Fault.TheVariants.{WordCount, Trailer, Damaged, FileNumber, End, FreeBlocks, PlanLength, PairCount, Address}
+use Rattle.model.specs.declared.WalkEnd.{WalkEnd}
+use Rattle.model.specs.declared.WalkEnd.TheVariants.{Block, Hole}
+use Rattle.model.specs.Lists.{tabulate, occ}
+use Rattle.model.specs.Layout.{Layout, house, published}
+use Rattle.model.specs.Tree.{least}
+use Rattle.model.specs.Board.{greatest, inode_of, walk_to, contents, file_sound, trees_sound}
+use Rattle.model.specs.Store.{store, flat, laid}
+use Rattle.model.specs.Plan.{pairs}
+use Rattle.model.specs.Change.{growth, write_plan, length_plan}
+use Rattle.model.specs.Format.{format_plan}
+use Rattle.model.specs.Hidden.{hidden}
+use Rattle.model.specs.GivenUp.{length_gives, write_gives}
+use Rattle.model.specs.Calls.{check_answer, free_count_answer, size_answer, read_answer, read_buffer, Planned, lowest, write, set_length, format, perform_answer, perform_board}
+use Rattle.model.specs.Cabinet.{image_check, image_size, image_read, image_read_buffer}
+use Rattle.model.specs.Lister.{listing}
+use Rattle.model.proofs.Computing.{computes}
+use Rattle.examples.specs.Examples.{same_list, same_answer}
+use Rattle.bands.specs.Sheet.{row, sheet, lies, height_in, sheet_height}
+use Rattle.bands.specs.Planned.{way_by, growth_by, grown_inode_by, some_plan_by, write_plan_by}
+use Rattle.model.specs.Cut.{plan_of}
+use Rattle.bounds.specs.Bounds.{t, u, v, most_blocks, most_stores, sharp_stores, store_count}
 
-samePlanned : Planned → Answer → List ℕ → Bool
-samePlanned p a slice = sameAnswer (p .answer) a && sameList (p .slice) slice
+same_planned : Planned → Answer → List ℕ → Bool
+same_planned p a slice = same_answer p.answer a && same_list p.slice slice
 
-sameInt : ℤ → ℤ → Bool
-sameInt (pos m) (pos n) = eqb m n
-sameInt (pos m) (negsuc n) = false
-sameInt (negsuc m) (pos n) = false
-sameInt (negsuc m) (negsuc n) = eqb m n
+same_int : ℤ → ℤ → Bool
+same_int (pos m) (pos n) = eqb m n
+same_int (pos m) (negsuc n) = false
+same_int (negsuc m) (pos n) = false
+same_int (negsuc m) (negsuc n) = eqb m n
 
-sameEnd : WalkEnd → WalkEnd → Bool
-sameEnd Hole Hole = true
-sameEnd Hole (Block n) = false
-sameEnd (Block m) Hole = false
-sameEnd (Block m) (Block n) = eqb m n
+same_end : WalkEnd → WalkEnd → Bool
+same_end Hole Hole = true
+same_end Hole (Block n) = false
+same_end (Block m) Hole = false
+same_end (Block m) (Block n) = eqb m n
 
 '''
-ALONE = '// The definitions alone.\n'
-OPEN = 'unfolding computes sameAnswer sameList samePlanned sameInt sameEnd row sheet lies heightIn sheetHeight wayBy growthBy grownInodeBy somePlanBy writePlanBy t u v mostBlocks mostStores sharpStores storeCount'
+ALONE = '// The definitions alone.\n#![tactic(auto)]\n'
+OPEN = 'unfolding computes same_answer same_list same_planned same_int same_end row sheet lies height_in sheet_height way_by growth_by grown_inode_by some_plan_by write_plan_by t u v most_blocks most_stores sharp_stores store_count'
 
 
 def numbers(xs):
@@ -147,7 +142,7 @@ class Vectors:
     def planned(self, kind, words, call, args, room, model):
         got, plan = model(words, *args, [7] * room, self.layout)
         args = ' '.join(numbers(x) if isinstance(x, list) else str(x) for x in args)
-        self.add(kind, words, 'samePlanned (%s LAYOUT BOARD %s (replicate %d 7)) %s %s' % (call, args, room, answer(got), numbers(plan)))
+        self.add(kind, words, 'same_planned (%s LAYOUT BOARD %s (replicate %d 7)) %s %s' % (call, args, room, answer(got), numbers(plan)))
         return got
 
     def write(self, words, file, offset, new, short=False):
@@ -163,7 +158,7 @@ class Vectors:
         return [tuple(plan[2 * i:2 * i + 2]) for i in range(count)]
 
     def length(self, words, file, length):
-        self.planned('length', words, 'setLength', [file, length], 2 * len(self.length_plan(words, file, length)), B.set_length)
+        self.planned('length', words, 'set_length', [file, length], 2 * len(self.length_plan(words, file, length)), B.set_length)
 
     def given(self, words, call, pairs):
         """How often the definition gives up each block: once where in the model it was live before or is stored to, and is not live when all is stored."""
@@ -173,31 +168,31 @@ class Vectors:
             after[at] = value
         gone = set(before.blocks) | {at // self.layout.width for at, _ in stored}
         gone -= set(B.Survey(after, self.layout).blocks)
-        self.add('given up', words, 'sameList (tabulate %d (λ q. occ q (%s))) %s' % (before.count, call, numbers([int(k in gone) for k in range(before.count)])))
+        self.add('given up', words, 'same_list (tabulate %d (λ q. occ q (%s))) %s' % (before.count, call, numbers([int(k in gone) for k in range(before.count)])))
 
     def write_gives(self, words, file, offset, new):
-        self.given(words, 'writeGives LAYOUT (lowest LAYOUT BOARD) BOARD %d %d %s' % (file, offset, numbers(new)), self.plan_write(words, file, offset, new).pairs())
+        self.given(words, 'write_gives LAYOUT (lowest LAYOUT BOARD) BOARD %d %d %s' % (file, offset, numbers(new)), self.plan_write(words, file, offset, new).pairs())
 
     def length_gives(self, words, file, length):
-        self.given(words, 'lengthGives LAYOUT BOARD %d %d' % (file, length), self.length_plan(words, file, length))
+        self.given(words, 'length_gives LAYOUT BOARD %d %d' % (file, length), self.length_plan(words, file, length))
 
     def format(self, words, room):
         self.planned('format', words, 'format', [], room, B.format_board)
 
     def check(self, words):
-        self.add('check', words, 'sameAnswer (checkAnswer LAYOUT BOARD) %s && sameAnswer (freeCountAnswer LAYOUT BOARD) %s'
+        self.add('check', words, 'same_answer (check_answer LAYOUT BOARD) %s && same_answer (free_count_answer LAYOUT BOARD) %s'
                  % (answer(B.check(words, self.layout)), answer(B.free_count(words, self.layout))))
 
     def size(self, words, file):
-        self.add('size', words, 'sameAnswer (sizeAnswer LAYOUT BOARD %d) %s' % (file, answer(B.size(words, file, self.layout))))
+        self.add('size', words, 'same_answer (size_answer LAYOUT BOARD %d) %s' % (file, answer(B.size(words, file, self.layout))))
 
     def contents(self, words, file):
-        self.add('contents', words, 'sameList (contents LAYOUT BOARD %d) %s' % (file, numbers(B.contents(words, file, self.layout))))
+        self.add('contents', words, 'same_list (contents LAYOUT BOARD %d) %s' % (file, numbers(B.contents(words, file, self.layout))))
 
     def read(self, words, file, offset, out):
         got, buffer = B.read(words, file, offset, out, self.layout)
         args = '%d %d %s' % (file, offset, numbers(out))
-        self.add('read', words, 'sameAnswer (readAnswer LAYOUT BOARD %s) %s && sameList (readBuffer LAYOUT BOARD %s) %s'
+        self.add('read', words, 'same_answer (read_answer LAYOUT BOARD %s) %s && same_list (read_buffer LAYOUT BOARD %s) %s'
                  % (args, answer(got), args, numbers(buffer)))
 
     def walk(self, words, file, i):
@@ -206,7 +201,7 @@ class Vectors:
         assert B.check(words, self.layout) != 0 or file > 31 or B.Survey(words, self.layout).data(file).get(i // unit * unit) == block
         if self.layout is B.HOUSE:
             self.walks |= walk_kinds(words, file, block)
-        self.add('walk', words, 'sameEnd (walkTo LAYOUT BOARD %d %d) %s' % (file, i, '(Block %d)' % block if block else 'Hole'))
+        self.add('walk', words, 'same_end (walk_to LAYOUT BOARD %d %d) %s' % (file, i, '(Block %d)' % block if block else 'Hole'))
 
     def hidden(self, words, at, value):
         self.holds('hidden', words, 'hidden LAYOUT BOARD (store %d %d)' % (at, value), B.hidden(words, at, value, self.layout))
@@ -217,7 +212,7 @@ class Vectors:
     def perform(self, words, plan, pairs):
         got, left = B.perform(words, plan, pairs, self.layout)
         args = '%s %d' % (numbers(plan), pairs)
-        self.add('perform', words, 'sameAnswer (performAnswer LAYOUT BOARD %s) %s && sameList (performBoard LAYOUT BOARD %s) %s'
+        self.add('perform', words, 'same_answer (perform_answer LAYOUT BOARD %s) %s && same_list (perform_board LAYOUT BOARD %s) %s'
                  % (args, answer(got), args, numbers(left)))
 
     # Parts of the calls, for published boards: of a trailer of 512 words, and of a long plan put in a slice, a call makes the prover read too much.
@@ -225,66 +220,66 @@ class Vectors:
     def figures(self):
         """The layout's own figures, the greatest size, and the least height at both ends of each band."""
         for name, figure in figures(self.layout):
-            self.add('figure', [], 'eqb (LAYOUT .%s) %d' % (name, figure))
+            self.add('figure', [], 'eqb LAYOUT.%s %d' % (name, figure))
         self.add('figure', [], 'eqb (greatest LAYOUT) %d' % self.layout.most)
         for first, last, _ in self.layout.bands:
             for size in (first, last):
-                self.add('height', [], 'eqb (least (LAYOUT .words) (LAYOUT .height) %d) %d' % (size, B.least(size, self.layout)))
+                self.add('height', [], 'eqb (least LAYOUT.words LAYOUT.height %d) %d' % (size, B.least(size, self.layout)))
 
     def trees_sound(self, words):
-        self.holds('trees', words, 'treesSound LAYOUT BOARD', B.check(words, self.layout) != -3)
+        self.holds('trees', words, 'trees_sound LAYOUT BOARD', B.check(words, self.layout) != -3)
 
     def file_sound(self, words, file):
         """On a board that has nothing against it but this file."""
-        self.holds('file', words, 'fileSound LAYOUT BOARD %d' % file, B.check(words, self.layout) != -3)
+        self.holds('file', words, 'file_sound LAYOUT BOARD %d' % file, B.check(words, self.layout) != -3)
 
     def pairs(self, kind, words, plan, pairs):
         """FRESH in the plan is the model's list of the free blocks."""
-        fresh = '(λ i. getD %s i 0)' % numbers(B.Survey(words, self.layout).free)
-        self.add(kind, words, 'sameList (flat (pairs (%s))) %s' % (plan.replace('FRESH', fresh), numbers([x for pair in pairs for x in pair])))
+        fresh = '(λ i. get_or %s i 0)' % numbers(B.Survey(words, self.layout).free)
+        self.add(kind, words, 'same_list (flat (pairs (%s))) %s' % (plan.replace('FRESH', fresh), numbers([x for pair in pairs for x in pair])))
 
     def write_pairs(self, words, file, offset, new):
-        self.pairs('write', words, 'writePlan LAYOUT FRESH BOARD %d %d %s' % (file, offset, numbers(new)), self.plan_write(words, file, offset, new).pairs())
+        self.pairs('write', words, 'write_plan LAYOUT FRESH BOARD %d %d %s' % (file, offset, numbers(new)), self.plan_write(words, file, offset, new).pairs())
 
     def growth_pairs(self, words, file, end):
         """The first two epochs of a write of one byte."""
         level, root = self.plan_write(words, file, end - 1, [7]).epochs[:2]
-        self.pairs('growth', words, 'growth LAYOUT FRESH (inodeOf LAYOUT BOARD %d) %d' % (file, end), level + [(B.BARRIER, 0)] + root)
+        self.pairs('growth', words, 'growth LAYOUT FRESH (inode_of LAYOUT BOARD %d) %d' % (file, end), level + [(B.BARRIER, 0)] + root)
 
     def length_pairs(self, words, file, length):
-        self.pairs('length', words, 'lengthPlan LAYOUT BOARD %d %d' % (file, length), self.length_plan(words, file, length))
+        self.pairs('length', words, 'length_plan LAYOUT BOARD %d %d' % (file, length), self.length_plan(words, file, length))
 
     def format_pairs(self, words):
-        self.pairs('format', words, 'formatPlan LAYOUT BOARD', B.format_pairs(len(words) // self.layout.width, self.layout))
+        self.pairs('format', words, 'format_plan LAYOUT BOARD', B.format_pairs(len(words) // self.layout.width, self.layout))
 
     # The house's alone.
 
     def most_stores(self, length):
-        self.add('most stores', [], 'eqb (mostStores %d) %d && eqb (sharpStores %d) %d' % (length, B.most_stores(length), length, B.sharp_most_stores(length)))
+        self.add('most stores', [], 'eqb (most_stores %d) %d && eqb (sharp_stores %d) %d' % (length, B.most_stores(length), length, B.sharp_most_stores(length)))
 
     def stores(self, words, file, offset, new):
         """How many stores the plan of a write has; how many fewer than it may have."""
         pairs = self.plan_write(words, file, offset, new).pairs()
-        self.add('stores', words, 'eqb (storeCount (planOf (write LAYOUT BOARD %d %d %s (replicate %d 7)))) %d'
+        self.add('stores', words, 'eqb (store_count (plan_of (write LAYOUT BOARD %d %d %s (replicate %d 7)))) %d'
                  % (file, offset, numbers(new), 2 * len(pairs), B.store_count(pairs)))
         return B.sharp_most_stores(len(new)) - B.store_count(pairs)
 
     def height(self, size):
-        self.add('height', [], 'eqb (sheetHeight %d) %d' % (size, B.least(size)))
+        self.add('height', [], 'eqb (sheet_height %d) %d' % (size, B.least(size)))
 
     def write_by(self, words, file, offset, new, tall, least):
         """A write's plan with its height chosen by `tall`, which is `least` in board.py's place of it."""
         before, B.least = B.least, least
         plan = [x for pair in B.plan_write(words, file, offset, new).pairs() for x in pair]
         B.least = before
-        self.add('write by a height', words, 'sameList (laid (replicate %d 7) 0 (pairs (writePlanBy house %s (lowest house BOARD) BOARD %d %d %s))) %s'
+        self.add('write by a height', words, 'same_list (laid (replicate %d 7) 0 (pairs (write_plan_by house %s (lowest house BOARD) BOARD %d %d %s))) %s'
                  % (len(plan), tall, file, offset, numbers(new), numbers(plan)))
 
     def image(self, image, file, offset, out):
         got, buffer = B.image_read(image, file, offset, out)
         args = '%d %d %s' % (file, offset, numbers(out))
-        self.add('image', image, 'sameInt (imageCheck house BOARD) %s && sameInt (imageSize house BOARD %d) %s && sameInt (imageRead house BOARD %s) %s'
-                 ' && sameList (imageReadBuffer house BOARD %s) %s && sameList (listing house BOARD) %s'
+        self.add('image', image, 'same_int (image_check house BOARD) %s && same_int (image_size house BOARD %d) %s && same_int (image_read house BOARD %s) %s'
+                 ' && same_list (image_read_buffer house BOARD %s) %s && same_list (listing house BOARD) %s'
                  % (signed(B.image_check(image)), file, signed(B.image_size(image, file)), args, signed(got), args, numbers(buffer),
                     numbers(list(B.listing(image).encode()))))
 
@@ -449,7 +444,7 @@ def each_band(vectors, rnd):
             vectors.height(size)
     for height, size in [(0, 0), (0, 20)]:
         words = made(vectors, rnd, 24, 9, height, size, lambda h, start: True)
-        for tall, least in [('sheetHeight', B.least), ('(λ e. least 8 3 e + 1)', lambda end, layout, least=B.least: least(end, layout) + 1)]:
+        for tall, least in [('sheet_height', B.least), ('(λ e. least 8 3 e + 1)', lambda end, layout, least=B.least: least(end, layout) + 1)]:
             vectors.write_by(words, 9, size, some_bytes(rnd, 100), tall, least)
 
 
@@ -641,7 +636,7 @@ def prove(vectors, crates=2):
     listed = 'model:\n' + ''.join(name + ': model\n' for name in beside)
     for c in range(crates):
         listed += 'vectors%d: model %s\n' % (c, ' '.join(beside))
-        texts['vectors%d/src/lib.rt' % c] = 'pub const PART: usize = %d;\n' % c
+        texts['vectors%d/src/lib.rt' % c] = '#![tactic(auto)]\n\npub const PART: usize = %d;\n' % c
         texts['vectors%d/proofs/Lib.antt' % c] = 'pub mod Vectors\n'
         texts['vectors%d/proofs/Vectors.antt' % c] = text_of(vectors, range(c, len(vectors.all), crates))
     place = tempfile.mkdtemp()
@@ -655,7 +650,7 @@ def prove(vectors, crates=2):
             os.makedirs(os.path.dirname(path), exist_ok=True)
             with open(path, 'w') as file:
                 file.write(text)
-        done = subprocess.run(['rt', 'check'], cwd=place, capture_output=True, text=True, env=dict(os.environ, RT_CUT='0'))
+        done = subprocess.run(['rt', 'all', 'check', '--jobs', str(crates)], cwd=place, capture_output=True, text=True)
         return done.returncode, done.stdout + done.stderr
     finally:
         shutil.rmtree(place)

@@ -9,7 +9,7 @@ calls=${1:-1000000} boards=${2:-300000} seed=${3:-1}
 
 mkdir -p target/rust
 tests/archives.sh cabinet hosts probes
-rt check lister >target/rust/build.log 2>&1 || { cat target/rust/build.log; exit 1; }
+tests/lister/build.sh
 
 flags=(--edition 2021 -O -C overflow-checks=on -D warnings --out-dir target/rust -L target/rust -L native=target/staticlib)
 rustc "${flags[@]}" --crate-type rlib --crate-name document docs/src/lib.rs
