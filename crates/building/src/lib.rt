@@ -112,7 +112,7 @@ pub fn build(
 }
 
 // Bytes written at the end of a tree, `taken` blocks being taken before.
-#[derive(Drop)]
+#[derive(Clone, Copy)]
 pub struct Tail {
     pub tree: Tree,
     pub taken: u64,

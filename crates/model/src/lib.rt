@@ -2,7 +2,7 @@
 #![tactic(auto)]
 
 // Why a call is refused. specs/Answers.antt has each fault's number.
-#[derive(Drop)]
+#[derive(Clone, Copy)]
 pub enum Fault {
     // 1: the board's word count
     WordCount,
@@ -25,28 +25,28 @@ pub enum Fault {
 }
 
 // What a call answers: done, with a number, or refused.
-#[derive(Drop)]
+#[derive(Clone, Copy)]
 pub enum Answer {
     Done(u64),
     Refused(Fault),
 }
 
 // Where the walk to a byte ends.
-#[derive(Drop)]
+#[derive(Clone, Copy)]
 pub enum WalkEnd {
     Block(u64),
     Hole,
 }
 
 // N6 of document 02: where the walk to a byte ends, and how many blocks it visited.
-#[derive(Drop)]
+#[derive(Clone, Copy)]
 pub struct VisitedEnd {
     pub end: WalkEnd,
     pub visited: u64,
 }
 
 // What a read or a write answers, and how many blocks the walks to its bytes visited.
-#[derive(Drop)]
+#[derive(Clone, Copy)]
 pub struct VisitedAnswer {
     pub answer: Answer,
     pub visited: u64,

@@ -64,7 +64,7 @@ pub fn commit(plan: &mut [u64], from: u64, p: u64, at: u64, value: u64) -> u64
 }
 
 // How many pairs a plan has and how many fresh blocks it takes.
-#[derive(Drop)]
+#[derive(Clone, Copy)]
 pub struct Count {
     pub pairs: u64,
     pub taken: u64,

@@ -28,7 +28,7 @@ pub struct Target {
 }
 
 // A tree, the offset in it where bytes are written, and the address of its pointer.
-#[derive(Drop)]
+#[derive(Clone, Copy)]
 struct Spot {
     tree: Tree,
     offset: u64,

@@ -47,7 +47,7 @@ pub fn walk_live(
 }
 
 // Bytes written at the end of a tree whose pointer stands at address `at`: how many, and how many blocks are taken before.
-#[derive(Drop)]
+#[derive(Clone, Copy)]
 pub struct End {
     pub tree: Tree,
     pub at: u64,

@@ -17,7 +17,7 @@ use trees::{Tree, span};
 use words::{byte, minus, start_of, width, word, word_at};
 
 // Bytes written at `offset` of a tree, `taken` blocks being taken before.
-#[derive(Drop)]
+#[derive(Clone, Copy)]
 pub struct Under {
     pub tree: Tree,
     pub offset: u64,
