@@ -380,6 +380,25 @@ pub fn walk(board: Board, inode: Inode, byte: u64) -> Place {
     }
 }
 
+/// N6, of the walk to a byte of a file: "how many blocks it visited, the data block included and a hole not counted".
+/// On any board of document 01's layout. "A pointer that isn't live counts as a hole", as a null one does: the blocks
+/// above it count. To a byte past the span no block is visited.
+pub fn visited(board: Board, inode: Inode, byte: u64) -> u64 {
+    let mut tree = inode.tree();
+    if tree.start >= inode.size || tree.end() <= byte {
+        return 0;
+    }
+    let mut count = 0;
+    while tree.block != 0 {
+        count += 1;
+        if tree.height == 0 {
+            break;
+        }
+        tree = tree.below(board, tree.index_over(byte), inode.size);
+    }
+    count
+}
+
 /// The byte of a file at a place below its size. For a run of bytes that lie in one block, `place` is the same.
 pub fn byte_at(board: Board, place: Place, position: u64) -> u8 {
     match place {

@@ -7,6 +7,9 @@ use crate::board::{
 };
 use crate::plan::{self, Plan, BARRIER};
 
+/// N6's "64-byte stretch".
+const STRETCH_BYTES: u64 = 64;
+
 /// `Err(refusal)` unless the condition holds.
 fn demand(condition: bool, refusal: u64) -> Result<(), u64> {
     if condition {
@@ -92,6 +95,36 @@ pub fn walk(words: &[u64], file: u64, byte: u64) -> Place {
     }
 }
 
+/// N6: "The walk to a byte also answers how many blocks it visited": where `walk` ends, and that number, 0 for a file
+/// above 31.
+pub fn walk_visited(words: &[u64], file: u64, byte: u64) -> (Place, u64) {
+    let board = Board { layout: &HOUSE, words };
+    let visited = if file < FILES { board::visited(board, inode(board, file), byte) } else { 0 };
+    (walk(words, file, byte), visited)
+}
+
+/// N6: "Read and write add these up, once for each 64-byte stretch from a multiple of 64 with a byte read or written",
+/// here the `count` bytes from `offset` on, all below the greatest size. For an accepted board and a file up to 31.
+fn visited_in_stretches(words: &[u64], file: u64, offset: u64, count: u64) -> u64 {
+    let board = Board { layout: &HOUSE, words };
+    let inode = inode(board, file);
+    let mut sum = 0;
+    for start in (0..HOUSE.greatest_size).step_by(STRETCH_BYTES as usize) {
+        let used = offset.max(start)..(offset + count).min(start + STRETCH_BYTES);
+        if !used.is_empty() {
+            sum += board::visited(board, inode, start);
+        }
+    }
+    sum
+}
+
+/// `read` on a board of document 01: its answer, and N6's sum for the bytes read. "Refused: as before, with count 0."
+pub fn read_visited(words: &[u64], file: u64, offset: u64, out: &mut [u8]) -> (Result<u64, u64>, u64) {
+    let answer = read(&HOUSE, words, file, offset, out);
+    let visited = answer.map_or(0, |count| visited_in_stretches(words, file, offset, count));
+    (answer, visited)
+}
+
 /// Plans a write of `bytes` at `offset` and answers the pair count. Refuses 1, 2, 3, 4, then 6: the end exceeds the
 /// greatest size; 7: too few free blocks; 8: the plan slice is too short. N3: "Offsets above the size are allowed", "5
 /// never occurs".
@@ -104,6 +137,14 @@ pub fn write(
     demand(end.is_some_and(|end| end <= layout.greatest_size), 6)?;
     let planned = plan::write(board, file, offset, bytes).ok_or(7_u64)?;
     hand_over(&planned, plan)
+}
+
+/// `write` on a board of document 01: its answer, and N6's sum for the bytes written, "over the tree as it was before
+/// the call": planning stores nothing, so the lent words hold that tree. "Refused: as before, with count 0."
+pub fn write_visited(words: &[u64], file: u64, offset: u64, bytes: &[u8], plan: &mut [u64]) -> (Result<u64, u64>, u64) {
+    let answer = write(&HOUSE, words, file, offset, bytes, plan);
+    let visited = answer.map_or(0, |_| visited_in_stretches(words, file, offset, bytes.len() as u64));
+    (answer, visited)
 }
 
 /// Plans a length change and answers the pair count. Refuses 1, 2, 3, 4, 6 (length above the greatest size), 8.

@@ -1,4 +1,4 @@
-"""A model of the cabinet memory board in Python, from document 01 and N1, N3, N4, N11 and N12 of document 02 (docs/DECISIONS.md says
+"""A model of the cabinet memory board in Python, from document 01 and N1, N3, N4, N6, N11 and N12 of document 02 (docs/DECISIONS.md says
 how far apart from the definitions).
 
 It surveys a board into dictionaries and plans with explicit loops, where the definitions in crates/model recurse, so that an error is
@@ -151,6 +151,18 @@ class Survey:
         """The live blocks of the file, pointer blocks and data blocks."""
         return [block for block, what in self.blocks.items() if what[0] in ('node', 'data') and what[1] == file]
 
+    def visited(self, file, first, count):
+        """How many blocks are visited by one walk "for each 64-byte stretch from a multiple of 64" with one of the bytes in it (N6).
+
+        The walk to a byte visits the file's live blocks with that byte in their span, so this goes by blocks and makes no walks."""
+        starts = {i - i % 64 for i in range(first, first + count)}
+        total = 0
+        for block in self.held(file):
+            what = self.blocks[block]
+            base, height = what[2], what[3] if what[0] == 'node' else 0
+            total += len(starts.intersection(range(base, base + self.layout.span[height], 64)))
+        return total
+
     def contents(self, file):
         out = [0] * self.size[file]
         for base, block in self.data(file).items():
@@ -200,27 +212,48 @@ def read(board, file, offset, out, layout=HOUSE):
     return len(got), got + list(out[len(got):])
 
 
-def walk(board, file, i, layout=HOUSE):
-    """The block where the walk to byte i ends, None in a hole. On any board, which is not surveyed: of a null block, and of a block or a word off the
-    board, all words are 0, and so is the trailer of a board that has no block but block 0."""
+def visits(board, file, i, layout=HOUSE):
+    """The blocks that the walk to byte i visits, in order, each with its height. On any board, which is not surveyed: of a null block, and of a
+    block or a word off the board, all words are 0, and so is the trailer of a board that has no block but block 0."""
     width, inodes = layout.width, layout.inodes
 
     def word(block, j):
         at = width * block + j
         return board[at] if block > 0 and at < len(board) else 0
     if file > 31:
-        return None
+        return []
     leaf = word(word(len(board) // width - 1, 0) // width, file // inodes) // width
     root, below = word(leaf, file % inodes * 2), word(leaf, file % inodes * 2 + 1)
     block, height = root // width, root % width
     if i >= 8 * width * width**height:
-        return None
+        return []
+    out = []
     # `below` counts the bytes of the span that lie below the size, none where the pointer is not live.
-    while block and below > 0 and height:
+    while block and below > 0:
+        out.append((block, height))
+        if height == 0:
+            break
         under = 8 * width**height
         block, below = word(block, i // under) // width, below - i // under * under
         i, height = i % under, height - 1
-    return block if block and below > 0 else None
+    return out
+
+
+def walk(board, file, i, layout=HOUSE):
+    """The block where the walk to byte i ends, None in a hole. On any board."""
+    ends = [block for block, height in visits(board, file, i, layout) if height == 0]
+    return ends[0] if ends else None
+
+
+def walk_visited(board, file, i):
+    """Where the walk to byte i ends, and "how many blocks it visited, the data block included and a hole not counted" (N6). On any house board."""
+    return walk(board, file, i), len(visits(board, file, i))
+
+
+def read_visited(board, file, offset, out):
+    """The answer, the buffer at exit and how many blocks were visited, 0 if refused (N6)."""
+    answered, left = read(board, file, offset, out)
+    return answered, left, Survey(board).visited(file, offset, answered) if answered >= 0 else 0
 
 
 def hidden(board, at, value, layout=HOUSE):
@@ -518,6 +551,12 @@ def plan_write(board, file, offset, new, layout=HOUSE):
 
 def write(board, file, offset, new, plan, layout=HOUSE):
     return planned(lambda: plan_write(board, file, offset, new, layout).pairs(), plan)
+
+
+def write_visited(board, file, offset, new, plan):
+    """The answer, the plan slice at exit and how many blocks were visited on the board before the call, 0 if refused (N6)."""
+    answered, left = write(board, file, offset, new, plan)
+    return answered, left, Survey(board).visited(file, offset, len(new)) if answered >= 0 else 0
 
 
 def set_length(board, file, length, plan, layout=HOUSE):

@@ -37,14 +37,14 @@ use Rattle.model.specs.declared.WalkEnd.TheVariants.{Block, Hole}
 use Rattle.model.specs.Lists.{tabulate, occ}
 use Rattle.model.specs.Layout.{Layout, house, published}
 use Rattle.model.specs.Tree.{least}
-use Rattle.model.specs.Board.{greatest, inode_of, walk_to, contents, file_sound, trees_sound}
+use Rattle.model.specs.Board.{greatest, inode_of, walk_to, visits_to, contents, file_sound, trees_sound}
 use Rattle.model.specs.Store.{store, flat, laid}
 use Rattle.model.specs.Plan.{pairs}
 use Rattle.model.specs.Change.{growth, write_plan, length_plan}
 use Rattle.model.specs.Format.{format_plan}
 use Rattle.model.specs.Hidden.{hidden}
 use Rattle.model.specs.GivenUp.{length_gives, write_gives}
-use Rattle.model.specs.Calls.{check_answer, free_count_answer, size_answer, read_answer, read_buffer, Planned, lowest, write, set_length, format, perform_answer, perform_board}
+use Rattle.model.specs.Calls.{check_answer, free_count_answer, size_answer, read_answer, read_buffer, read_visited, Planned, lowest, write, write_visited, set_length, format, perform_answer, perform_board}
 use Rattle.model.specs.Cabinet.{image_check, image_size, image_read, image_read_buffer}
 use Rattle.model.specs.Lister.{listing}
 use Rattle.model.proofs.Computing.{computes}
@@ -71,6 +71,8 @@ same_end (Block m) (Block n) = eqb m n
 
 '''
 ALONE = '// The definitions alone.\n#![tactic(auto)]\n'
+# Counts of visited blocks that must be met, by the calls that answer them.
+COUNTS = {'walk': set(range(5)), 'read': set(range(9)), 'write': set(range(9))}
 OPEN = 'unfolding computes same_answer same_list same_planned same_int same_end row sheet lies height_in sheet_height way_by growth_by grown_inode_by some_plan_by write_plan_by t u v most_blocks most_stores sharp_stores store_count'
 
 
@@ -116,7 +118,7 @@ class Vectors:
     """Theorems, each with the name of its board. LAYOUT in one is the layout that they are about."""
 
     def __init__(self):
-        self.boards, self.all, self.kinds, self.walks = {}, [], {}, set()
+        self.boards, self.all, self.kinds, self.walks, self.counts = {}, [], {}, set(), {}
         self.on('house', B.HOUSE)
 
     def on(self, name, layout):
@@ -150,7 +152,17 @@ class Vectors:
             room = 2 * len(self.plan_write(words, file, offset, new).pairs())
         except B.Refused:
             room = 10
-        self.planned('write', words, 'write', [file, offset, new], max(0, room - 1) if short else room, B.write)
+        room = max(0, room - 1) if short else room
+        self.planned('write', words, 'write', [file, offset, new], room, B.write)
+        if self.layout is B.HOUSE:
+            count = B.write_visited(words, file, offset, new, [7] * room)[2]
+            self.visited('write', words, 'write_visited LAYOUT BOARD %d %d %s (replicate %d 7)' % (file, offset, numbers(new), room), count)
+
+    def visited(self, kind, words, count, wanted):
+        """A count of visited blocks, beside what the same call answers: the last vector says both."""
+        name, test = self.all[-1]
+        self.all[-1] = (name, '%s && eqb (%s) %d' % (test, count.replace('BOARD', name).replace('LAYOUT', self.name), wanted))
+        self.counts.setdefault(kind, set()).add(wanted)
 
     def length_plan(self, words, file, length):
         """The pairs of a length change, none where it is refused."""
@@ -194,6 +206,8 @@ class Vectors:
         args = '%d %d %s' % (file, offset, numbers(out))
         self.add('read', words, 'same_answer (read_answer LAYOUT BOARD %s) %s && same_list (read_buffer LAYOUT BOARD %s) %s'
                  % (args, answer(got), args, numbers(buffer)))
+        if self.layout is B.HOUSE:
+            self.visited('read', words, 'read_visited LAYOUT BOARD %s' % args, B.read_visited(words, file, offset, out)[2])
 
     def walk(self, words, file, i):
         """On any board; on an accepted one the survey must find the same block."""
@@ -202,6 +216,7 @@ class Vectors:
         if self.layout is B.HOUSE:
             self.walks |= walk_kinds(words, file, block)
         self.add('walk', words, 'same_end (walk_to LAYOUT BOARD %d %d) %s' % (file, i, '(Block %d)' % block if block else 'Hole'))
+        self.visited('walk', words, 'visits_to LAYOUT BOARD %d %d' % (file, i), len(B.visits(words, file, i, self.layout)))
 
     def hidden(self, words, at, value):
         self.holds('hidden', words, 'hidden LAYOUT BOARD (store %d %d)' % (at, value), B.hidden(words, at, value, self.layout))
@@ -482,6 +497,18 @@ def walks(vectors, rnd):
         assert kind in vectors.walks, 'no walk ' + kind
 
 
+def visits(vectors, rnd):
+    """Walks, reads and writes in trees of each height with holes on each level: one stretch and two, past the size and past the span."""
+    for height in range(4):
+        words = made(vectors, rnd, 40, 9, height, min(1300, 64 * 8**height - 9), lambda h, start: start < 1024 if h else start in (0, 64, 512))
+        for i in (0, 64, 128, 576, 1024, 1400, 4096, 32767, 32768):
+            vectors.walk(words, 9, i)
+        for offset, count in [(0, 1), (63, 2), (1, 64), (60, 70), (500, 13), (1020, 9)]:
+            vectors.read(words, 9, offset, [9] * count)
+        for offset, count in [(0, 1), (63, 2), (500, 20), (1290, 20), (1400, 3)]:
+            vectors.write(words, 9, offset, some_bytes(rnd, count))
+
+
 def at_random(vectors, rnd, count):
     layout = vectors.layout
     for _ in range(count):
@@ -671,8 +698,12 @@ def main():
     each_band(vectors, rnd)
     walks(vectors, rnd)
     costs(vectors, random.Random(seed))
+    visits(vectors, random.Random(seed))
     ways += narrow(vectors, rnd)
     published(vectors, rnd)
+    for kind, wanted in COUNTS.items():
+        missed = wanted - vectors.counts[kind]
+        assert not missed, 'no %s visited so many blocks: %s' % (kind, missed)
     status, said = prove(vectors)
     failed = sorted({int(i) for i in re.findall(r'error: `v(\d+)`', said)})
     for i in failed:
