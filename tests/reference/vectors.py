@@ -27,13 +27,10 @@ FAULTS = ['', 'WordCount', 'Trailer', 'Damaged', 'FileNumber', '', 'End', 'FreeB
 # Spare words in the leaves and in the inode pointer block, heights 0 and 1, as with the published block, but short lists of words.
 NARROW = B.Layout(width=20, leaves=4, inodes=8, mark=3, blocks=512, most=3200, tallest=1, span=[160, 3200], bands=[(0, 160, 0), (161, 3200, 1)])
 NARROW_SIZES = [0, 1, 7, 8, 159, 160, 161, 320, 325, 500, 1600, 3199, 3200]
-HEAD = '''use Rattle.std.specs.Prelude.{◌≡◌, Bool, true, false, not, ◌&&◌, List, [], ◌∷◌, ◌++◌, ℕ, ◌+◌, replicate, get_or, ℤ, pos, negsuc, eqb}
+HEAD = '''use Rattle.std.specs.Prelude.{◌≡◌, Bool, true, false, not, ◌&&◌, List, [], ◌∷◌, ◌++◌, ℕ, ◌+◌, replicate, get_or, ℤ, pos, negsuc, eqb, Option, Some, None, Ok, Err}
 use Rattle.std.proofs.Common.{refl}
-use Rattle.model.specs.declared.Answer.{Answer}
-use Rattle.model.specs.declared.Answer.TheVariants.{Done, Refused}
 use Rattle.model.specs.declared.Fault.TheVariants.{WordCount, Trailer, Damaged, FileNumber, End, FreeBlocks, PlanLength, PairCount, Address}
-use Rattle.model.specs.declared.WalkEnd.{WalkEnd}
-use Rattle.model.specs.declared.WalkEnd.TheVariants.{Block, Hole}
+use Rattle.model.specs.Answers.{Answer}
 use Rattle.model.specs.Lists.{tabulate, occ}
 use Rattle.model.specs.Layout.{Layout, house, published}
 use Rattle.model.specs.Tree.{least}
@@ -63,11 +60,11 @@ same_int (pos m) (negsuc n) = false
 same_int (negsuc m) (pos n) = false
 same_int (negsuc m) (negsuc n) = eqb m n
 
-same_end : WalkEnd → WalkEnd → Bool
-same_end Hole Hole = true
-same_end Hole (Block n) = false
-same_end (Block m) Hole = false
-same_end (Block m) (Block n) = eqb m n
+same_end : Option ℕ → Option ℕ → Bool
+same_end None None = true
+same_end None (Some n) = false
+same_end (Some m) None = false
+same_end (Some m) (Some n) = eqb m n
 
 '''
 ALONE = '// The definitions alone.\n#![tactic(auto)]\n'
@@ -97,7 +94,7 @@ def numbers(xs):
 
 def answer(n):
     assert n >= 0 or FAULTS[-n], 'a refusal by %d' % -n
-    return '(Done %d)' % n if n >= 0 else '(Refused %s)' % FAULTS[-n]
+    return '(Ok %d)' % n if n >= 0 else '(Err %s)' % FAULTS[-n]
 
 
 def signed(n):
@@ -215,7 +212,7 @@ class Vectors:
         assert B.check(words, self.layout) != 0 or file > 31 or B.Survey(words, self.layout).data(file).get(i // unit * unit) == block
         if self.layout is B.HOUSE:
             self.walks |= walk_kinds(words, file, block)
-        self.add('walk', words, 'same_end (walk_to LAYOUT BOARD %d %d) %s' % (file, i, '(Block %d)' % block if block else 'Hole'))
+        self.add('walk', words, 'same_end (walk_to LAYOUT BOARD %d %d) %s' % (file, i, '(Some %d)' % block if block else 'None'))
         self.visited('walk', words, 'visits_to LAYOUT BOARD %d %d' % (file, i), len(B.visits(words, file, i, self.layout)))
 
     def hidden(self, words, at, value):

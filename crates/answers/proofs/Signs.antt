@@ -1,4 +1,5 @@
 -- An answer as a signed number of 64 bits.
+use Rattle.std.specs.Prelude.{Ok, Err}
 use mathlib.Core.Path.{◌≡◌, sym, ap, ◌∙◌}
 use Prim.Native.Nat.{ℕ, zero, suc, ◌<◌, ◌^◌}
 use native.Mathlib.Omega.{arith}
@@ -8,9 +9,7 @@ use mir.Val.{SFits, to_z}
 use mir.Facts.{to_z_pos}
 use Rattle.model.specs.declared.Fault.{Fault}
 use Rattle.model.specs.declared.Fault.TheVariants.{WordCount, Trailer, Damaged, FileNumber, End, FreeBlocks, PlanLength, PairCount, Address}
-use Rattle.model.specs.declared.Answer.{Answer}
-use Rattle.model.specs.declared.Answer.TheVariants.{Done, Refused}
-use Rattle.model.specs.Answers.{number, signed, counted}
+use Rattle.model.specs.Answers.{number, signed, counted, Answer}
 
 number_small : (f : Fault) → number f < 2 ^ 63
 unfolding number
@@ -29,7 +28,7 @@ negated_fits zero h = record { sfits = omega arith }
 negated_fits (suc n) h = record { sfits = omega arith }
 
 -- an answer that is done
-module _ {answer : Answer} {n : ℕ} (small : counted answer < 2 ^ 63) (e : answer ≡ Done n) where
+module _ {answer : Answer} {n : ℕ} (small : counted answer < 2 ^ 63) (e : answer ≡ Ok n) where
   pub done_fits : SFits w64 (pos n)
   unfolding counted
   done_fits = record { sfits = rw e at small }
@@ -43,6 +42,6 @@ module _ {n : ℕ} (f : Fault) (is : n ≡ number f) where
   pub refused_small : n < 2 ^ 63
   refused_small = rw is (number_small f)
 
-  pub refused_signed : {answer : Answer} → answer ≡ Refused f → neg_ℤ (pos n) ≡ signed answer
+  pub refused_signed : {answer : Answer} → answer ≡ Err f → neg_ℤ (pos n) ≡ signed answer
   unfolding signed
   refused_signed e = ap (λ (m : ℕ). neg_ℤ (pos m)) is ∙ sym (ap signed e)

@@ -1,12 +1,11 @@
 -- A write's plan is the same with every function that gives the least sufficient height where the write ends.
+use Rattle.std.specs.Prelude.{Option, Some, None}
 use mathlib.Core.Path.{◌≡◌, refl, ap}
 use mathlib.Core.Bool.{cond}
 use mathlib.Core.List.{List, [], ◌∷◌}
 use Prim.Native.Nat.{ℕ, zero, suc, ◌+◌}
 use lib.ListN.{length}
 use Rattle.model.specs.declared.Inode.{Inode}
-use Rattle.model.specs.declared.WalkEnd.{WalkEnd}
-use Rattle.model.specs.declared.WalkEnd.TheVariants.{Block, Hole}
 use Rattle.model.specs.Lists.{concat}
 use Rattle.model.specs.Layout.{Layout, house}
 use Rattle.model.specs.Tree.{live, least}
@@ -38,11 +37,11 @@ module _ (g : Layout) (tall fresh : ℕ → ℕ) (n : Inode) (e : ℕ) (same : t
   unfolding grown_inode_by grown_inode
   inode_same = λ t. record { pointer = n.pointer; at = n.at; root = cond (growing g n e) (grown_root g fresh n (same t)) n.root; size = n.size }
 
-some_same : (g : Layout) (tall fresh : ℕ → ℕ) (b : List ℕ) (f : ℕ) (end : WalkEnd) (o : ℕ) (new : List ℕ) → tall (o + length new) ≡ least g.words g.height (o + length new)
+some_same : (g : Layout) (tall fresh : ℕ → ℕ) (b : List ℕ) (f : ℕ) (end : Option ℕ) (o : ℕ) (new : List ℕ) → tall (o + length new) ≡ least g.words g.height (o + length new)
     → some_plan_by g tall fresh b f end o new ≡ some_plan g fresh b f end o new
 unfolding some_plan_by some_plan grown_plan
-some_same g tall fresh b f (Block k) o new same = refl
-some_same g tall fresh b f Hole o new same =
+some_same g tall fresh b f (Some k) o new same = refl
+some_same g tall fresh b f None o new same =
     let n : Inode = inode_of g b f in
     let p : Plan = growth g fresh n (o + length new) in
     rw (growth_same g tall fresh n (o + length new) same, inode_same g tall fresh n (o + length new) same)

@@ -1,9 +1,7 @@
 -- A write's plan with the height chosen by any function `tall`, where `write_plan` of Change has *the least sufficient height*: in growth, and in a tail
 -- of an empty file. No other way asks for a height.
-use Rattle.std.specs.Prelude.{cond, List, [], ◌∷◌, ℕ, suc, ◌+◌, length}
+use Rattle.std.specs.Prelude.{cond, List, [], ◌∷◌, ℕ, suc, ◌+◌, length, Option, Some, None}
 use Rattle.model.specs.declared.Inode.{Inode}
-use Rattle.model.specs.declared.WalkEnd.{WalkEnd}
-use Rattle.model.specs.declared.WalkEnd.TheVariants.{Block, Hole}
 use Rattle.model.specs.Lists.{concat}
 use Rattle.model.specs.Layout.{Layout}
 use Rattle.model.specs.Tree.{live}
@@ -27,9 +25,9 @@ module _ (g : Layout) (tall : ℕ → ℕ) (fresh : ℕ → ℕ) (n : Inode) whe
   grown_inode_by e = record { pointer = n.pointer; at = n.at; root = cond (growing g n e) (grown_root g fresh n (tall e)) n.root; size = n.size }
 
 module _ (g : Layout) (tall : ℕ → ℕ) (fresh : ℕ → ℕ) (b : List ℕ) (f : ℕ) where
-  unfoldable pub some_plan_by : WalkEnd → ℕ → List ℕ → Plan
-  some_plan_by (Block k) o new = single_word g b k o new
-  some_plan_by Hole o new =
+  unfoldable pub some_plan_by : Option ℕ → ℕ → List ℕ → Plan
+  some_plan_by (Some k) o new = single_word g b k o new
+  some_plan_by None o new =
       let p : Plan = growth_by g tall fresh (inode_of g b f) (o + length new) in
       let grown : List ℕ = performed b (concat (plan_epochs p.steps)) in
       afterwards p (way_by g tall fresh grown (grown_inode_by g tall fresh (inode_of g b f) (o + length new)) o new p.taken)

@@ -1,15 +1,25 @@
 -- Runs of zeros: the trailer from word 4 on, and the spare inode pointers.
 use mathlib.Core.Path.{◌≡◌, refl, sym, ap, ◌∙◌}
-use mathlib.Core.Logic.{◌≢◌}
-use mathlib.Core.Bool.{Bool, true, false, ◌&&◌, and-true, and-false}
-use mathlib.Core.List.{List}
+use mathlib.Core.Logic.{inl, inr}
+use mathlib.Core.Bool.{Bool, true, false, ◌&&◌, and-true}
+use mathlib.Core.List.{List, [], ◌∷◌}
 use Prim.Native.Nat.{ℕ, zero, suc, ◌+◌, ◌-◌, ◌*◌, ◌/◌, ◌^◌, ◌≤◌, ◌<◌}
 use native.Mathlib.Omega.{arith}
-use native.Mathlib.Nat.{add-zero, mul-le-mul_left}
+use native.Mathlib.Nat.{add_assoc, add-zero, mul-le-mul_left}
 use lib.ListN.{get_or}
 use lib.Dec.{eqb}
-use borrow.Author.Tests.{eq-eqb, ne_eqb}
-use Rattle.model.specs.declared.Kind.{Kind}
+use Rattle.std.proofs.Common.{fold, bit_or, min, take, drop, slice_range, length}
+use Rattle.std.proofs.lemmas.List.{get_or-drop, take_all, take_min, length-drop}
+use Rattle.std.proofs.Math.ListN.{drop_of_length-le, get_or-eq_default}
+use Rattle.std.proofs.lemmas.List.Folds.{list_all_more}
+use Rattle.std.proofs.lemmas.Nat.{le_or_l}
+use Rattle.std.proofs.Math.Seq.{take-nil}
+use Rattle.std.specs.Int.Bits.{or_zero_l}
+use Rattle.std.specs.List.{list_all}
+use native.Mathlib.Numerals.{add-one}
+use Rattle.model.proofs.Cases.{split}
+use borrow.Author.Tests.{ne_eqb}
+use Rattle.model.specs.Layout.{Kind}
 use Rattle.model.specs.Lists.{every}
 use Rattle.model.specs.Layout.{Layout, Fits, layout_of}
 use Rattle.model.specs.Tree.{cell}
@@ -30,21 +40,46 @@ every_both m (suc n) p =
     let e : m + suc n ≡ suc (m + n) = omega arith in
     rw e (assoc (every m p) (every n (λ j. p (m + j))) (p (m + n)) ∙ ap (λ (t : Bool). t && p (m + n)) (every_both m n p))
 
--- word `from` + j of the block that begins at an index is 0
-abbrev pub none : List ℕ → ℕ → ℕ → ℕ → Bool
-none b at from j = eqb (get_or b (at + (from + j)) 0) 0
+-- numbers or'ed together are 0 just where each is
+none_or : (a x : ℕ) → eqb (bit_or a x) 0 ≡ (eqb a 0 && eqb x 0)
+none_or zero x = rw or_zero_l
+none_or (suc a) x = rw (ne_eqb (bit_or (suc a) x) 0 (λ e. omega (arith, le_or_l (suc a) x)), ne_eqb (suc a) 0 (λ e. omega arith))
 
-module _ (b : List ℕ) (at from j : ℕ) (l : from ≤ j) {t : Bool} (e : t ≡ every (j - from) (none b at from)) where
-  so_far : (every (j - from) (none b at from) && eqb (get_or b (at + j) 0) 0) ≡ every (j + 1 - from) (none b at from)
-  unfolding every
-  so_far = let p : from + (j - from) ≡ j = omega arith in let q : j + 1 - from ≡ suc (j - from) = omega arith in rw (q, p)
+none_of : (a : ℕ) (xs : List ℕ) → eqb (fold bit_or a xs) 0 ≡ (eqb a 0 && list_all (λ w. eqb w 0) xs)
+none_of a [] = sym (and-true (eqb a 0))
+none_of a (x ∷ xs) = none_of (bit_or a x) xs ∙ rw (none_or a x, assoc)
 
-  -- one word more: it is 0, or it is not
-  pub one_none : get_or b (at + j) 0 ≡ 0 → t ≡ every (j + 1 - from) (none b at from)
-  one_none z = e ∙ sym (and-true (every (j - from) (none b at from))) ∙ rw (eq-eqb (get_or b (at + j) 0) 0 z) at so_far
+-- the first n words of a list, where those past its end are 0
+first_none : (xs : List ℕ) (n : ℕ) → list_all (λ w. eqb w 0) (take n xs) ≡ every n (λ j. eqb (get_or xs j 0) 0)
+unfolding every
+first_none xs zero = refl
+first_none xs (suc n) = elim (split (suc n) (length xs)) [
+  | inl l ↦ rw (← add-one n, list_all_more (λ w. eqb w 0) xs n 0 l, first_none xs n)
+  | inr l ↦
+      let all : take (suc n) xs ≡ take n xs = take_all (suc n) xs (omega arith) ∙ sym (take_all n xs (omega arith)) in
+      let past : eqb (get_or xs n 0) 0 ≡ true = rw (get_or-eq_default xs 0 {n = n} (omega arith)) in
+      rw (all, first_none xs n) (sym (rw (past, and-true)))
+]
 
-  pub one_some : get_or b (at + j) 0 ≢ 0 → false ≡ every (j + 1 - from) (none b at from)
-  one_some f = sym (and-false (every (j - from) (none b at from))) ∙ rw (ne_eqb (get_or b (at + j) 0) 0 f) at so_far
+-- words `from` to `to` - 1 of the block that begins at an index, as far as they are on the board
+slice_is : (b : List ℕ) (at from to : ℕ) {end start : ℕ} → end ≡ min (length b) (min (at + to) 18446744073709551615) → start ≡ min end (min (at + from) 18446744073709551615)
+    → length b < 2 ^ 64 → slice_range b start end ≡ take (to - from) (drop (at + from) b)
+slice_is b at from to {end} {start} ee es l = elim (split (length b) (at + from)) [
+  | inl u ↦ let none : end - start ≡ 0 = omega arith in rw (none, drop_of_length-le b u) (sym (take-nil (to - from)))
+  | inr u ↦ elim (split to from) [
+    | inl v ↦ let none : end - start ≡ 0 = omega arith in let few : to - from ≡ 0 = omega arith in rw (none, few)
+    | inr v ↦
+        let s : start ≡ at + from = omega arith in
+        let n : end - start ≡ min (to - from) (length (drop (at + from) b)) = omega (arith, length-drop (at + from) b) in
+        rw (n, s) (take_min (to - from) (drop (at + from) b))
+  ]
+]
+
+-- they are 0 just where they give 0 or'ed together
+pub zeros_or : (b : List ℕ) (at from to : ℕ) {end start r : ℕ} → end ≡ min (length b) (min (at + to) 18446744073709551615) → start ≡ min end (min (at + from) 18446744073709551615)
+    → length b < 2 ^ 64 → r ≡ fold bit_or 0 (slice_range b start end) → eqb r 0 ≡ zeros_in b at from (to - from)
+zeros_or b at from to ee es l er =
+    rw (er, none_of, slice_is b at from to ee es l, first_none) (every_cong (to - from) _ _ (λ j l. rw (get_or-drop, add_assoc)))
 
 -- the trailer's words have addresses
 pub trailer_room : (kind : Kind) (n : ℕ) → n < 2 ^ 64 → (layout_of kind).words * (n / (layout_of kind).words - 1) + (layout_of kind).words ≤ 2 ^ 64

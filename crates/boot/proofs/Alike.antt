@@ -1,5 +1,6 @@
 -- Boards that are alike outside block 0. A tree and a file whose inode is found elsewhere are the same on both: null is a hole, and no block 0 is
 -- looked at. Where both sides of an equation are one definition at two boards, its path, λ t, is that definition with t at the parts that are equal.
+use Rattle.std.specs.Prelude.{Option, Some, None}
 use mathlib.Core.Path.{◌≡◌, refl, ap, ◌∙◌}
 use mathlib.Core.Logic.{inl, inr}
 use mathlib.Core.Bool.{Bool, true, false, cond, ◌&&◌}
@@ -9,8 +10,6 @@ use native.Mathlib.Omega.{arith}
 use lib.ListN.{length, get_or, set, drop, length-set}
 use lib.Seq.{get_or-drop, get_or-set_same, get_or-set_other, set_out}
 use lib.Dec.{leb, ltb}
-use Rattle.model.specs.declared.WalkEnd.{WalkEnd}
-use Rattle.model.specs.declared.WalkEnd.TheVariants.{Block, Hole}
 use Rattle.model.specs.Lists.{tabulate, joined, every}
 use Rattle.model.specs.Words.{byte_of}
 use Rattle.model.specs.Layout.{Layout, files}
@@ -52,11 +51,11 @@ performed_alike W b b' (s ∷ ss) same = performed_alike W (set b s.at s.value) 
 -- ---- Trees
 
 -- a walk did not end at block 0
-unfoldable pub Off : WalkEnd → Type 0
-Off Hole = Unit
-Off (Block k) = 0 < k
+unfoldable pub Off : Option ℕ → Type 0
+Off None = Unit
+Off (Some k) = 0 < k
 
-pub off_cond : (t : Bool) (w : WalkEnd) → Off w → Off (cond t w Hole)
+pub off_cond : (t : Bool) (w : Option ℕ) → Off w → Off (cond t w None)
 unfolding Off
 off_cond true w o = o
 off_cond false w o = tt
@@ -96,12 +95,12 @@ module _ (W : ℕ) {b b' : List ℕ} (same : Alike W b b') where
 
   root_walk_alike : (r n i : ℕ) → root_walk W b r n i ≡ root_walk W b' r n i
   unfolding root_walk
-  root_walk_alike r n i = λ t. cond (ltb i (span W (r % W))) (walk_alike (r % W) (r / W) n i t) Hole
+  root_walk_alike r n i = λ t. cond (ltb i (span W (r % W))) (walk_alike (r % W) (r / W) n i t) None
 
-  shown_alike : (w : WalkEnd) → Off w → (i : ℕ) → shown W b w i ≡ shown W b' w i
+  shown_alike : (w : Option ℕ) → Off w → (i : ℕ) → shown W b w i ≡ shown W b' w i
   unfolding shown Off
-  shown_alike Hole o i = refl
-  shown_alike (Block k) o i = λ t. byte_of (cell_alike k (i / 8) o t) (i % 8)
+  shown_alike None o i = refl
+  shown_alike (Some k) o i = λ t. byte_of (cell_alike k (i / 8) o t) (i % 8)
 
   blocks_alike : (h k n : ℕ) → blocks W b h k n ≡ blocks W b' h k n
   unfolding blocks
@@ -169,7 +168,7 @@ module _ (g : Layout) {b b' : List ℕ} (same : Alike g.words b b') where
 
   pub walk_to_alike : (f i : ℕ) → walk_to g b f i ≡ walk_to g b' f i
   unfolding walk_to
-  walk_to_alike f i = λ t. cond (ltb f (files g)) (root_walk_alike g.words same (inode_links_alike f 0 t) (inode_links_alike f 1 t) i t) Hole
+  walk_to_alike f i = λ t. cond (ltb f (files g)) (root_walk_alike g.words same (inode_links_alike f 0 t) (inode_links_alike f 1 t) i t) None
 
   module _ {f : ℕ} (found : Found g b f) where
     pub address_alike : root_address g b f ≡ root_address g b' f

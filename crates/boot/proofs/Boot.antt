@@ -1,4 +1,5 @@
 -- Block 0, the boot block: what it holds decides no answer, no walk, no plan and no slice.
+use Rattle.std.specs.Prelude.{Err}
 use mathlib.Core.Path.{◌≡◌, refl, sym, subst, ◌∙◌}
 use mathlib.Core.Bool.{Bool, true, false, not, ◌&&◌, ◌||◌}
 use mathlib.Core.List.{List, [], ◌∷◌, ◌++◌, append-nil, append_assoc}
@@ -7,7 +8,6 @@ use native.Mathlib.Omega.{arith}
 use lib.ListN.{length, get_or, take, drop}
 use lib.Dec.{leb, ltb, eqb, T}
 use borrow.Author.Tests.{leb-false, not-false}
-use Rattle.model.specs.declared.Answer.TheVariants.{Refused}
 use Rattle.model.specs.declared.Fault.{Fault}
 use Rattle.model.specs.declared.Fault.TheVariants.{WordCount, Trailer, Damaged, FileNumber, End, FreeBlocks, PairCount, PlanLength, Address}
 use Rattle.model.specs.Lists.{tabulate, every, all, pick_from, member, distinct}
@@ -37,13 +37,13 @@ and_alike false s' r r' e f = rw (← e)
 
 -- they end in refusal x, whatever is asked after them
 abbrev Turns : Fault → Faults → Type 0
-Turns x fs = (more : Faults) (n : ℕ) → answered (fs ++ more) n ≡ Refused x
+Turns x fs = (more : Faults) (n : ℕ) → answered (fs ++ more) n ≡ Err x
 
-planned_turned : (x : Fault) (fs more : Faults) (ss : List Store) (slice : List ℕ) → Turns x fs → planned (fs ++ more) ss slice ≡ record { answer = Refused x; slice = slice }
+planned_turned : (x : Fault) (fs more : Faults) (ss : List Store) (slice : List ℕ) → Turns x fs → planned (fs ++ more) ss slice ≡ record { answer = Err x; slice = slice }
 unfolding planned unless_refused
 planned_turned x fs more ss slice p =
     let last : Faults = (PlanLength, ltb (length slice) (2 * length ss)) ∷ [] in
-    let e : answered ((fs ++ more) ++ last) (length ss) ≡ Refused x = rw (append_assoc fs more last) (p (more ++ last) (length ss)) in
+    let e : answered ((fs ++ more) ++ last) (length ss) ≡ Err x = rw (append_assoc fs more last) (p (more ++ last) (length ss)) in
     λ t. record { answer = e t; slice = unless_refused (e t) (laid slice 0 ss) slice }
 
 -- the lists of two boards: the same refusal for both, or they are equal and P holds

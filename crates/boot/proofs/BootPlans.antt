@@ -1,5 +1,6 @@
 -- Boards that are alike outside block 0 have the same plans: each way of planning a write, growth before it, and length change. A file's plan is
 -- read off its inode and its tree, so all that is asked of a board is that the file's inode is found outside block 0 (Found).
+use Rattle.std.specs.Prelude.{Option, Some, None}
 use mathlib.Core.Path.{◌≡◌, refl, ◌∙◌}
 use mathlib.Core.Bool.{Bool, true, false, not, cond, ◌&&◌, ◌||◌}
 use mathlib.Core.List.{List, [], ◌∷◌, ◌++◌}
@@ -9,8 +10,6 @@ use native.Mathlib.Nat.{le-div_iff_mul-le}
 use lib.ListN.{length, get_or, replicate}
 use lib.Dec.{leb, ltb, eqb}
 use Rattle.model.specs.declared.Inode.{Inode}
-use Rattle.model.specs.declared.WalkEnd.{WalkEnd}
-use Rattle.model.specs.declared.WalkEnd.TheVariants.{Block, Hole}
 use Rattle.model.specs.Lists.{joined, sum, choose, concat}
 use Rattle.model.specs.Words.{byte_of, word_of}
 use Rattle.model.specs.Layout.{Layout}
@@ -132,7 +131,7 @@ module _ (g : Layout) {b b' : List ℕ} (same : Alike g.words b b') {f : ℕ} (f
 
   single_block_alike : (o e : ℕ) → single_block g b f o e ≡ single_block g b' f o e
   unfolding single_block
-  single_block_alike o e = λ t. cond (leb e (sizes t) && eqb (o / 8) ((e - 1) / 8)) (file_walk_alike g same found o t) Hole
+  single_block_alike o e = λ t. cond (leb e (sizes t) && eqb (o / 8) ((e - 1) / 8)) (file_walk_alike g same found o t) None
 
   single_word_alike : (k o : ℕ) (new : List ℕ) → 0 < k → single_word g b k o new ≡ single_word g b' k o new
   unfolding single_word cell
@@ -233,10 +232,10 @@ module _ (g : Layout) (pos : 0 < g.words) {b b' : List ℕ} (same : Alike g.word
       (λ t. afterwards p (way_alike g same' pos (grown_inode g fresh (inode_of g b f) e) (inode_off e) fresh o new p.taken t))
       ∙ (λ t. grown_plan g fresh b' (lent_inode_alike g same found t) o new)
 
-  some_plan_alike : (end : WalkEnd) → Off end → (o : ℕ) (new : List ℕ) → some_plan g fresh b f end o new ≡ some_plan g fresh b' f end o new
+  some_plan_alike : (end : Option ℕ) → Off end → (o : ℕ) (new : List ℕ) → some_plan g fresh b f end o new ≡ some_plan g fresh b' f end o new
   unfolding some_plan Off
-  some_plan_alike (Block k) off o new = single_word_alike g same found k o new off
-  some_plan_alike Hole off o new = grown_plan_alike o new
+  some_plan_alike (Some k) off o new = single_word_alike g same found k o new off
+  some_plan_alike None off o new = grown_plan_alike o new
 
   pub write_plan_alike : (o : ℕ) (new : List ℕ) → write_plan g fresh b f o new ≡ write_plan g fresh b' f o new
   unfolding write_plan

@@ -1,4 +1,5 @@
 -- Which plan slices are never refused 8: twice the board's words for every plan, and twice the figure for a write's.
+use Rattle.std.specs.Prelude.{Err}
 use mathlib.Core.Path.{◌≡◌, refl, sym, ap, ◌∙◌}
 use mathlib.Core.Logic.{◌≢◌, inl, inr}
 use mathlib.Core.Bool.{Bool, true, false, cond}
@@ -9,11 +10,10 @@ use native.Mathlib.Nat.{mul-le-mul_left, mul-le-mul_right}
 use lib.ListN.{length, length-append}
 use lib.Dec.{T, ltb, eqb}
 use borrow.Author.Tests.{le-ltb, not-false}
-use Rattle.model.specs.declared.Answer.TheVariants.{Refused}
 use Rattle.model.specs.declared.Fault.{Fault}
 use Rattle.model.specs.declared.Fault.TheVariants.{WordCount, Trailer, Damaged, FileNumber, End, FreeBlocks, PlanLength}
-use Rattle.model.specs.declared.Kind.{Kind}
-use Rattle.model.specs.declared.Kind.TheVariants.{House, Published}
+use Rattle.model.specs.Layout.{Kind}
+use Rattle.model.specs.Layout.{House, Published}
 use Rattle.model.specs.Lists.{tabulate, joined}
 use Rattle.model.specs.Layout.{Layout, Fits, files, house, layout_of}
 use Rattle.model.specs.Board.{greatest, leaf, size, file_blocks, live_blocks, free, block_count, accepted, word_count_sound}
@@ -21,7 +21,7 @@ use Rattle.model.specs.Store.{Store}
 use Rattle.model.specs.Plan.{Step, Plan, plan, pairs}
 use Rattle.model.specs.Change.{write_plan, length_plan}
 use Rattle.model.specs.Format.{format_plan}
-use Rattle.model.specs.Answers.{Faults, number, answered}
+use Rattle.model.specs.Answers.{Faults, number, answered, Answer}
 use Rattle.model.specs.Calls.{word_count_fault, board_faults, file_faults, planned, write_faults, write_from, set_length, format}
 use Rattle.model.specs.Cut.{Change, writing, length_to, called_from}
 use Rattle.model.proofs.Cases.{either}
@@ -79,17 +79,17 @@ length_takes g b f n = by _ (eqb n (size g b f))
 
 -- ---- No refusal 8
 
+same_fault : {y z : Fault} {r : Answer} → r ≡ Err y → r ≡ Err z → y ≡ z
+same_fault e f = cc
+
 -- of a list of faults the last is not the answer where its test fails once the others' have
-not_last : (fs : Faults) (x : Fault) (test : Bool) (n : ℕ) → All (λ t. t.0 ≢ x) fs → (All Passed fs → test ≡ false) → answered (fs ++ ((x, test) ∷ [])) n ≢ Refused x
+not_last : (fs : Faults) (x : Fault) (test : Bool) (n : ℕ) → All (λ t. t.0 ≢ x) fs → (All Passed fs → test ≡ false) → answered (fs ++ ((x, test) ∷ [])) n ≢ Err x
 unfolding All answered
 not_last [] x test n others fails e = not_refused {v = n} (rw (fails tt)) e
 not_last (y ∷ ts) x test n others fails e = elim (either y.1) [
-  | inl s ↦ others.0 (same (rw s at e))
+  | inl s ↦ others.0 (same_fault refl (rw s at e))
   | inr s ↦ not_last ts x test n others.1 (λ h. fails (s, h)) (rw s at e)
 ]
-  where
-    same : {y z : Fault} → Refused y ≡ Refused z → y ≡ z
-    same r = cc
 
 other : (x : Fault) → number x < 8 → x ≢ PlanLength
 unfolding number
@@ -97,7 +97,7 @@ other x lt e = omega (arith, ap number e)
 
 -- so a call that plans does not refuse 8 where its slice holds m pairs and it has no more, once no other fault was found
 holds_plan : (m : ℕ) (slice : List ℕ) (faults : Faults) (ss : List Store) → All (λ t. t.0 ≢ PlanLength) faults → 2 * m ≤ length slice → (All Passed faults → length ss ≤ m)
-    → (planned faults ss slice).answer ≢ Refused PlanLength
+    → (planned faults ss slice).answer ≢ Err PlanLength
 unfolding planned
 holds_plan m slice faults ss others long le = not_last faults PlanLength (ltb (length slice) (2 * length ss)) (length ss) others (λ h. le-ltb (length slice) (2 * length ss) (omega (arith, le h)))
 
@@ -110,7 +110,7 @@ module _ (g : Layout) (b : List ℕ) (f : ℕ) where
   unfolding write_faults number All
   write_others o new p = all_append (λ t. t.0 ≢ PlanLength) (file_faults g b f) _ file_others (other End (omega arith), (other FreeBlocks (omega arith), tt))
 
-room_for : (g : Layout) → Roomy g → (b : List ℕ) (fresh : ℕ → ℕ) (c : Change) (slice : List ℕ) → 2 * length b ≤ length slice → (called_from g fresh b c slice).answer ≢ Refused PlanLength
+room_for : (g : Layout) → Roomy g → (b : List ℕ) (fresh : ℕ → ℕ) (c : Change) (slice : List ℕ) → 2 * length b ≤ length slice → (called_from g fresh b c slice).answer ≢ Err PlanLength
 unfolding called_from write_from set_length number All
 room_for g r b fresh (writing f o new) slice long =
     let p : Plan = write_plan g fresh b f o new.values in

@@ -1,4 +1,5 @@
 -- How many stores a plan has: W for each fresh block that it takes, and few others.
+use Rattle.std.specs.Prelude.{Option, Some, None}
 use mathlib.Core.Path.{◌≡◌, refl, ap, ◌∙◌}
 use mathlib.Core.Logic.{◌≢◌, ◌⊎◌, inl, inr}
 use mathlib.Core.Bool.{Bool, true, false, cond}
@@ -10,8 +11,6 @@ use lib.ListN.{length, replicate, length-append}
 use lib.Dec.{leb, ltb, eqb}
 use borrow.Author.Tests.{leb-true}
 use Rattle.model.specs.declared.Inode.{Inode}
-use Rattle.model.specs.declared.WalkEnd.{WalkEnd}
-use Rattle.model.specs.declared.WalkEnd.TheVariants.{Block, Hole}
 use Rattle.model.specs.Lists.{sum, choose, concat}
 use Rattle.model.specs.Layout.{Layout, Fits}
 use Rattle.model.specs.Tree.{span, least, cell}
@@ -253,10 +252,10 @@ module _ (g : Layout) (fit : Fits g) (fresh : ℕ → ℕ) where
       by false = low some
 
   module _ (b : List ℕ) (f : ℕ) (low : Low g (inode_of g b f)) where
-    some_bounded : (end : WalkEnd) (o : ℕ) (new : List ℕ) → Bounded g.words (extra g) (some_plan g fresh b f end o new)
+    some_bounded : (end : Option ℕ) (o : ℕ) (new : List ℕ) → Bounded g.words (extra g) (some_plan g fresh b f end o new)
     unfolding some_plan grown_plan
-    some_bounded (Block k) o new = one_bounded g.words (extra g) _ (single_costs g b k o new (extra g))
-    some_bounded Hole o new =
+    some_bounded (Some k) o new = one_bounded g.words (extra g) _ (single_costs g b k o new (extra g))
+    some_bounded None o new =
         let n : Inode = inode_of g b f in
         let e : ℕ = o + length new in
         let p : Plan = growth g fresh n e in

@@ -1,5 +1,6 @@
 -- What a write costs: W stores for each block that fresh paths, a leaf and growth would take, and two commits. A tail stores at most W words in each block that
 -- it leaves in place.
+use Rattle.std.specs.Prelude.{Option, Some, None}
 use mathlib.Core.Path.{◌≡◌, refl, ap}
 use mathlib.Core.Logic.{◌⊎◌, inl, inr}
 use mathlib.Core.List.{List, [], ◌∷◌}
@@ -8,8 +9,6 @@ use native.Mathlib.Omega.{arith}
 use native.Mathlib.Nat.{mul-le-mul_left, mul-zero}
 use lib.ListN.{length, length-append}
 use Rattle.model.specs.declared.Inode.{Inode}
-use Rattle.model.specs.declared.WalkEnd.{WalkEnd}
-use Rattle.model.specs.declared.WalkEnd.TheVariants.{Block, Hole}
 use Rattle.model.specs.Lists.{sum, concat}
 use Rattle.model.specs.Layout.{Layout, Fits}
 use Rattle.model.specs.Tree.{span, least, cell}
@@ -172,10 +171,10 @@ module _ (g : Layout) (fit : Fits g) (fresh : ℕ → ℕ) (b : List ℕ) (f : �
   abbrev LeafTakes : Type 0
   LeafTakes = (c : List ℕ) (n : Inode) (k : ℕ) → n.size ≡ size g b f → Low g n → 0 < n.size → (shadow_with_length g fresh c n o new k).taken ≤ k + Y + 1
 
-  some_most : LeafTakes → (end : WalkEnd) → cost (some_plan g fresh b f end o new) ≤ g.words * (g.height + (Y + 1)) + 2
+  some_most : LeafTakes → (end : Option ℕ) → cost (some_plan g fresh b f end o new) ≤ g.words * (g.height + (Y + 1)) + 2
   unfolding some_plan grown_plan grown_inode
-  some_most leaf (Block k) = omega (arith, single_cost g b k o new)
-  some_most leaf Hole =
+  some_most leaf (Some k) = omega (arith, single_cost g b k o new)
+  some_most leaf None =
       let n : Inode = inode_of g b f in
       let e : ℕ = o + length new in
       let p : Plan = growth g fresh n e in

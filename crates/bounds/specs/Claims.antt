@@ -1,8 +1,7 @@
 -- What is promised of the stores of a write, by N12 of document 02 and beyond it, and which plan slices hold every plan. All are proved; README says where.
-use Rattle.std.specs.Prelude.{◌≡◌, ◌≢◌, List, ℕ, ◌*◌, ◌≤◌, length}
-use Rattle.model.specs.declared.Answer.TheVariants.{Refused}
+use Rattle.std.specs.Prelude.{◌≡◌, ◌≢◌, List, ℕ, ◌*◌, ◌≤◌, length, Err}
 use Rattle.model.specs.declared.Fault.TheVariants.{PlanLength}
-use Rattle.model.specs.declared.Kind.{Kind}
+use Rattle.model.specs.Layout.{Kind}
 use Rattle.model.specs.Words.{Bytes}
 use Rattle.model.specs.Layout.{house, layout_of}
 use Rattle.model.specs.Board.{size}
@@ -33,13 +32,13 @@ MetRule = (b : List ℕ) × (o : ℕ) × (new : Bytes) × (slice : List ℕ)
 -- With a slice of twice the board's words no write, past the end too, and no length change is refused 8: any words, all arguments, each kind of board,
 -- whichever order blocks are taken in
 abbrev pub RoomRule : Type 0
-RoomRule = (k : Kind) (b : List ℕ) (fresh : ℕ → ℕ) (c : Change) (slice : List ℕ) → 2 * length b ≤ length slice → (called_from (layout_of k) fresh b c slice).answer ≢ Refused PlanLength
+RoomRule = (k : Kind) (b : List ℕ) (fresh : ℕ → ℕ) (c : Change) (slice : List ℕ) → 2 * length b ≤ length slice → (called_from (layout_of k) fresh b c slice).answer ≢ Err PlanLength
 
 -- nor format
 abbrev pub FormatRoomRule : Type 0
-FormatRoomRule = (k : Kind) (b slice : List ℕ) → 2 * length b ≤ length slice → (format (layout_of k) b slice).answer ≢ Refused PlanLength
+FormatRoomRule = (k : Kind) (b slice : List ℕ) → 2 * length b ≤ length slice → (format (layout_of k) b slice).answer ≢ Err PlanLength
 
 -- nor a write, with two words for each pair that it may have
 abbrev pub WriteRoomRule : Type 0
 WriteRoomRule = (b : List ℕ) (fresh : ℕ → ℕ) (f o : ℕ) (new : Bytes) (slice : List ℕ) → 2 * most_stores (length new.values) ≤ length slice
-    → (write_from house b fresh f o new.values slice).answer ≢ Refused PlanLength
+    → (write_from house b fresh f o new.values slice).answer ≢ Err PlanLength

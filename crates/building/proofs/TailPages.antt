@@ -16,6 +16,7 @@ use Rattle.model.proofs.Splice.{length_part}
 use Rattle.model.proofs.Paths.{untouched_null}
 use Rattle.model.proofs.Built.{build_none}
 use Rattle.model.proofs.Tailed.{length_tail}
+use Rattle.trees.specs.declared.Tree.{Tree}
 use Rattle.plans.specs.Onto.{taking}
 use Rattle.taking.specs.Taking.{Took}
 use Rattle.taking.proofs.Taken as Taken
@@ -100,16 +101,16 @@ module _ {W : ℕ} (pos : 0 < W) {b free : List ℕ} {h k n : ℕ} {new : List �
           record { took = Taken.same_pages (sym (joined_next j kid ∙ rw none (append-nil (joined j kid)))) p.took }
 
       -- something is
-      pub pages_step : {x d left taken' : ℕ} {plan'' : List ℕ} → x ≡ link W b k j → d ≡ x / W → left ≡ n - j * s
-          → Took W free plan' base taken (tail_pages W b (taking free) h d left own taken) plan'' taken' → Paged W b free h k n new c base (j + 1) plan plan'' taken'
-      pages_step {x} {d} {left} ex ed el t =
+      pub pages_step : {x taken' : ℕ} {u : Tree} {plan'' : List ℕ} → x ≡ link W b k j → u ≡ record { height = h; block = x / W; left = n - j * s }
+          → Took W free plan' base taken (tail_pages W b (taking free) u.height u.block u.left own taken) plan'' taken' → Paged W b free h k n new c base (j + 1) plan plan'' taken'
+      pages_step {x} {taken'} {u} ex eu t =
           let kid : ℕ → List Page = kid_pages W b free h k n new c in
-          let same : tail_pages W b (taking free) h d left own taken ≡ kid j = rw (ed, ex, el, ep, pages_count, es) in
+          let same : tail_pages W b (taking free) u.height u.block u.left own taken ≡ kid j = rw (eu, ex, ep, pages_count, es) in
           record { took = Taken.same_pages (sym (joined_next j kid)) (Taken.more p.took (Taken.same_pages same t)) }
 
       -- what child j takes is among what all take
-      pub pages_room : {left : ℕ} → j < W → left ≡ n - j * s → taken + tail_need W h left (length own) ≤ c + tail_before W h n (length new) W
-      pages_room less el = rw (el, ep, es, length_part (span W h) j n new) (omega (arith, pages_count, before_next W h n (length new) j less))
+      pub pages_room : {d : ℕ} {u : Tree} → j < W → u ≡ record { height = h; block = d; left = n - j * s } → taken + tail_need W u.height u.left (length own) ≤ c + tail_before W h n (length new) W
+      pages_room less eu = rw (eu, ep, es, length_part (span W h) j n new) (omega (arith, pages_count, before_next W h n (length new) j less))
 
   module _ {s : ℕ} (es : s ≡ span W h) where
     skip : (taken : ℕ) (plan' : List ℕ) (j : ℕ) → part_length s j n (length new) ≡ 0 → Paged W b free h k n new c base j plan plan' taken → Paged W b free h k n new c base (j + 1) plan plan' taken

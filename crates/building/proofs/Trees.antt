@@ -12,12 +12,13 @@ use lib.Seq.{get_or-set_same, get_or-set_other, get_or-take}
 use borrow.Rule.Slice.PartMut.{put_mid, post_of}
 use Rattle.model.specs.Lists.{joined}
 use Rattle.model.specs.Tree.{seen, span, link}
-use Rattle.model.specs.Fresh.{Page, part, part_length, touched, fresh_need, fresh_before, need, data_page, pointer_page, build}
+use Rattle.model.specs.Fresh.{Page, part, touched, fresh_need, fresh_before, need, data_page, pointer_page, build}
 use Rattle.model.proofs.Cases.{decide, length_joined}
 use Rattle.model.proofs.Agree.{seen_live, seen_dead}
 use Rattle.model.proofs.Splice.{length_part, choose_zero, choose_pos}
 use Rattle.model.proofs.Paths.{kid_need, fresh_none, fresh_node, fresh_pos, fresh_quiet}
 use Rattle.model.proofs.Built.{kid, kid_lengths, build_none, build_data, build_node, length_build, room}
+use Rattle.trees.specs.declared.Tree.{Tree}
 use Rattle.plans.specs.Onto.{taking}
 use Rattle.taking.specs.Taking.{Took}
 use Rattle.taking.proofs.Taken as Taken
@@ -87,23 +88,22 @@ module _ {W : ℕ} {pos : 0 < W} {free b : List ℕ} {h k n o : ℕ} {new plan�
     ];
   }
 
-  module _ {s x m o' d : ℕ} {own : List ℕ} (es : s ≡ span W h) (eo : own ≡ part s j o new) (ex : x ≡ link W b k j) (em : m ≡ n - j * s) (eo' : o' ≡ o - j * s) (ed : d ≡ x / W) where
-    same : build W (taking free) b h d m o' own taken ≡ child W pos free b h k n o new c j
-    same = cc (taken_before)
+  module _ {s x o' : ℕ} {own : List ℕ} {u : Tree} (es : s ≡ span W h) (eo : own ≡ part s j o new) (ex : x ≡ link W b k j) (eo' : o' ≡ o - j * s)
+      (eu : u ≡ record { height = h; block = x / W; left = n - j * s }) where
+    same : build W (taking free) b u.height u.block u.left o' own taken ≡ child W pos free b h k n o new c j
+    same = rw (eu, ex, eo, eo', es, taken_before)
 
-    count : fresh_need W b h d m o' (length own) ≡ kid_need W b h k n o (length new) j
-    count =
-        let l : length own ≡ part_length (span W h) j o (length new) = ap length eo ∙ rw es (length_part (span W h) j o new) in
-        cc
+    count : fresh_need W b u.height u.block u.left o' (length own) ≡ kid_need W b h k n o (length new) j
+    count = rw (eu, ex, eo, eo', es, length_part (span W h) j o new)
 
     -- a child that is not made fresh: nothing is laid, and its pointer is the old one
-    module _ (none : touched W h d m o' (length own) ≡ false) where
+    module _ (none : touched W u.height u.block u.left o' (length own) ≡ false) where
       nothing : Took W free plan base taken (child W pos free b h k n o new c j) plan taken
-      nothing = Taken.same_pages (sym (build_none W pos b (taking free) h d m o' own taken none) ∙ same) Taken.none
+      nothing = Taken.same_pages (sym (build_none W pos b (taking free) u.height u.block u.left o' own taken none) ∙ same) Taken.none
 
       old : pointers W pos free b h k n o new c j ≡ seen (n - j * span W h) (link W b k j)
       unfolding pointer_page
-      old = choose_zero (kid_need W b h k n o (length new) j) _ _ (sym count ∙ fresh_none W b h d m o' (length own) none)
+      old = choose_zero (kid_need W b h k n o (length new) j) _ _ (sym count ∙ fresh_none W b u.height u.block u.left o' (length own) none)
 
       module _ {page' : List ℕ} (kept : Kept j page page') where
         pub dead_child : {page'' : List ℕ} → n ≤ j * s → page'' ≡ set page' j 0 → Children W pos free b h k n o new plan₀ base c (j + 1) plan page'' taken
@@ -113,14 +113,14 @@ module _ {W : ℕ} {pos : 0 < W} {free b : List ℕ} {h k n o : ℕ} {new plan�
         old_child live = turn nothing (ex ∙ sym (old ∙ seen_live (n - j * span W h) (link W b k j) (omega (arith, rw es at live)))) kept
 
     module _ {page' : List ℕ} (kept : Kept j page page') where
-      pub fresh_child : {plan' page'' : List ℕ} {taken' v : ℕ} → touched W h d m o' (length own) ≡ true → Took W free plan base taken (build W (taking free) b h d m o' own taken) plan' taken'
+      pub fresh_child : {plan' page'' : List ℕ} {taken' v : ℕ} → touched W u.height u.block u.left o' (length own) ≡ true → Took W free plan base taken (build W (taking free) b u.height u.block u.left o' own taken) plan' taken'
           → v ≡ W * taking free (taken' - 1) → page'' ≡ set page' j v → Children W pos free b h k n o new plan₀ base c (j + 1) plan' page'' taken'
       unfolding pointer_page
-      fresh_child {plan'} {page''} {taken'} {v} some u ev =
+      fresh_child {plan'} {page''} {taken'} {v} some laid ev =
           let l : ℕ = kid_need W b h k n o (length new) j in
-          let at : taken' ≡ c + fresh_before W b h k n o (length new) j + l = omega (arith, u.next, length_build W pos b (taking free) h d m o' own taken, count, taken_before) in
-          turn (Taken.same_pages same u) (ev ∙ ap (λ (y : ℕ). W * taking free (y - 1)) at
-          ∙ sym (choose_pos l _ _ (omega (arith, count, fresh_pos W b h d m o' (length own) some)))) kept
+          let at : taken' ≡ c + fresh_before W b h k n o (length new) j + l = omega (arith, laid.next, length_build W pos b (taking free) u.height u.block u.left o' own taken, count, taken_before) in
+          turn (Taken.same_pages same laid) (ev ∙ ap (λ (y : ℕ). W * taking free (y - 1)) at
+          ∙ sym (choose_pos l _ _ (omega (arith, count, fresh_pos W b u.height u.block u.left o' (length own) some)))) kept
 
 -- ---- The tree
 
@@ -163,13 +163,13 @@ module _ {W : ℕ} {pos : 0 < W} {free b : List ℕ} {h k n o : ℕ} {new plan�
 
   -- the places of child j's pairs, and of those of the block over all
   module _ (fits : base + W * (c + fresh_need W b h k n o (length new)) ≤ 2 ^ 32) where
-    pub child_fits : {s x m o' d : ℕ} {own : List ℕ} → j < W → s ≡ span W (h - 1) → own ≡ part s j o new → x ≡ link W b k j → m ≡ n - j * s → o' ≡ o - j * s → d ≡ x / W
-        → base + W * (taken + fresh_need W b (h - 1) d m o' (length own)) ≤ 2 ^ 32
-    child_fits {s} {x} {m} {o'} {d} {own} l es eo ex em e ed =
-        let same : fresh_need W b (h - 1) d m o' (length own)
-        ≡ fresh_need W b (h - 1) (link W b k j / W) (n - j * span W (h - 1)) (o - j * span W (h - 1)) (length (part (span W (h - 1)) j o new)) = cc in
+    pub child_fits : {s x o' : ℕ} {own : List ℕ} {u : Tree} → j < W → s ≡ span W (h - 1) → own ≡ part s j o new → x ≡ link W b k j → o' ≡ o - j * s
+        → u ≡ record { height = h - 1; block = x / W; left = n - j * s } → base + W * (taken + fresh_need W b u.height u.block u.left o' (length own)) ≤ 2 ^ 32
+    child_fits {s} {x} {o'} {own} {u} l es eo ex e eu =
+        let same : fresh_need W b u.height u.block u.left o' (length own)
+        ≡ fresh_need W b (h - 1) (link W b k j / W) (n - j * span W (h - 1)) (o - j * span W (h - 1)) (length (part (span W (h - 1)) j o new)) = rw (eu, ex, eo, e, es) in
         let all : c + fresh_need W b (suc (h - 1)) k n o (length new) ≤ c + fresh_need W b h k n o (length new) = omega (arith, need_tall W b h k n o (length new) tall) in
-        let less : taken + fresh_need W b (h - 1) d m o' (length own) ≤ c + fresh_need W b h k n o (length new) =
+        let less : taken + fresh_need W b u.height u.block u.left o' (length own) ≤ c + fresh_need W b h k n o (length new) =
         omega (arith, same, taken_before t, room W pos b (taking free) (h - 1) k n o new c (c + fresh_need W b h k n o (length new)) (tall_touched W h k n o (length new) tall some) all j l) in
         omega (arith, mul-le-mul_left W less)
 

@@ -1,4 +1,5 @@
 -- What the library answers on the board of an image is what C is to get.
+use Rattle.std.specs.Prelude.{Ok, Err}
 use mathlib.Core.Path.{◌≡◌, refl, sym, ap, ◌∙◌}
 use mathlib.Core.Logic.{inl, inr}
 use mathlib.Core.List.{List, [], ◌++◌}
@@ -8,15 +9,13 @@ use lib.IntN.{ℤ}
 use mir.Syntax.{w64}
 use mir.Val.{SFits, to_z, of_z}
 use mir.Facts.{to_z-of_z}
-use Rattle.model.specs.declared.Answer.{Answer}
-use Rattle.model.specs.declared.Answer.TheVariants.{Done, Refused}
 use Rattle.model.specs.Words.{words_of}
 use Rattle.model.specs.Layout.{house}
 use Rattle.model.specs.Board.{size, contents, word_count_sound}
-use Rattle.model.specs.Answers.{answered, unless_refused, signed}
+use Rattle.model.specs.Answers.{answered, unless_refused, signed, Answer}
 use Rattle.model.specs.Calls.{word_count_fault, board_faults, file_faults, check_answer, size_answer, read_count, read_answer, read_buffer}
 use Rattle.model.specs.Cabinet.{image_check, image_size, image_read_answer, image_read, image_read_buffer}
-use Rattle.images.specs.Images.{board_of, Loaded}
+use Rattle.images.specs.Images.{board_of}
 use Rattle.images.proofs.Boards.{read_as, check_answer_law, file_answer}
 use Rattle.reading.specs.Results.{ReadResult}
 use Rattle.cabinet.specs.Results.{ImageReadResult}
@@ -30,8 +29,8 @@ buffer_kept b f o out =
     by (read_answer house b f o out) (take n (drop o (contents house b f)) ++ drop n out)
   where
     by : (r : Answer) (x : List ℕ) → unless_refused r (unless_refused r x out) out ≡ unless_refused r x out
-    by (Done n) x = refl
-    by (Refused f) x = refl
+    by (Ok n) x = refl
+    by (Err f) x = refl
 
 buffer_none : (x : List ℕ) (f o : ℕ) (out : List ℕ) → unless_refused (read_answer house [] f o out) x out ≡ read_buffer house [] f o out
 unfolding read_buffer read_answer file_faults board_faults word_count_fault word_count_sound answered unless_refused
@@ -53,20 +52,20 @@ module _ (image : List ℕ) where
     | inr w ↦ rw w.0 (buffer_none (read_buffer house (words_of image) f o out) f o out)
   ])
 
--- what each call has to show: n words are lent, and what the board answers is what the image is to answer
-module _ {image words : List ℕ} {n : ℕ} (c : Loaded image n words) where
+-- what each call has to show: what the board answers is what the image is to answer
+module _ (image : List ℕ) {board : List ℕ} (c : board ≡ board_of image) where
   module _ {r : Answer} {s : ℤ} (fits : SFits w64 s) (es : s ≡ signed r) where
-    pub checked : r ≡ check_answer house (take n words) → to_z w64 (of_z w64 s) ≡ image_check house image
+    pub checked : r ≡ check_answer house board → to_z w64 (of_z w64 s) ≡ image_check house image
     unfolding image_check
-    checked e = to_z-of_z fits ∙ es ∙ ap signed (rw c.board at e ∙ sym (check_answer_law image))
+    checked e = to_z-of_z fits ∙ es ∙ ap signed (rw c at e ∙ sym (check_answer_law image))
 
-    pub sized : (f : ℕ) → r ≡ size_answer house (take n words) f → to_z w64 (of_z w64 s) ≡ image_size house image f
-    sized f e = to_z-of_z fits ∙ es ∙ ap signed (rw c.board at e) ∙ sym (size_answer_law image f)
+    pub sized : (f : ℕ) → r ≡ size_answer house board f → to_z w64 (of_z w64 s) ≡ image_size house image f
+    sized f e = to_z-of_z fits ∙ es ∙ ap signed (rw c at e) ∙ sym (size_answer_law image f)
 
-    pub read : {f o : ℕ} {out out' : List ℕ} → ReadResult house (take n words) f o out r out' →
+    pub read : {f o : ℕ} {out out' : List ℕ} → ReadResult house board f o out r out' →
         ImageReadResult image f o out (to_z w64 (of_z w64 s)) out'
     unfolding image_read
     read {f} {o} {out} e = record {
-      answer = to_z-of_z fits ∙ es ∙ ap signed (rw c.board at e.answer ∙ sym (read_answer_law image f o out));
-      buffer = rw c.board at e.buffer ∙ sym (read_buffer_law image f o out);
+      answer = to_z-of_z fits ∙ es ∙ ap signed (rw c at e.answer ∙ sym (read_answer_law image f o out));
+      buffer = rw c at e.buffer ∙ sym (read_buffer_law image f o out);
     }

@@ -8,6 +8,7 @@ ghost use Rattle.cabinet.specs.Results.{ImageReadResult};
 
 use answers::signed;
 use images::load;
+use kinds::House;
 
 // Check: 0, or -1, -2, -3.
 #[unsafe(no_mangle)]
@@ -15,8 +16,8 @@ pub extern "C" fn montebeech_check(image: &[u8]) -> i64
     ensures { result ≡ image_check house image.now }
 {
     let mut words = [0u64; 8192];
-    let n = load(image, &mut words);
-    signed(reading::check(&words[..n]))
+    let board = load(image, &mut words);
+    signed(reading::check::<House>(board))
 }
 
 // Size: a file's size, or -1, -2, -3, -4.
@@ -25,8 +26,8 @@ pub extern "C" fn montebeech_size(image: &[u8], file: u64) -> i64
     ensures { result ≡ image_size house image.now file }
 {
     let mut words = [0u64; 8192];
-    let n = load(image, &mut words);
-    signed(reading::size(&words[..n], file))
+    let board = load(image, &mut words);
+    signed(reading::size::<House>(board, file))
 }
 
 // Read: fills `out` from byte `offset` on and answers the count, or -1, -2, -3, -4.
@@ -35,6 +36,6 @@ pub extern "C" fn montebeech_read(image: &[u8], file: u64, offset: u64, out: &mu
     ensures { ImageReadResult image.now file offset out.old result out.new }
 {
     let mut words = [0u64; 8192];
-    let n = load(image, &mut words);
-    signed(reading::read(&words[..n], file, offset, out))
+    let board = load(image, &mut words);
+    signed(reading::read::<House>(board, file, offset, out))
 }

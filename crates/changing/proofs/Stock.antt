@@ -1,4 +1,6 @@
 -- What the table of the free blocks of a surveyed board holds.
+use Rattle.model.specs.Answers.{Answer}
+use Rattle.std.specs.Prelude.{Ok}
 use mathlib.Core.Path.{◌≡◌, refl, sym, ap, ◌∙◌}
 use mathlib.Core.Logic.{inl, inr}
 use mathlib.Core.List.{List, [], ◌∷◌, ◌++◌}
@@ -7,10 +9,8 @@ use native.Mathlib.Omega.{arith}
 use lib.ListN.{length, get_or, drop, replicate, get_or-eq_default}
 use lib.Seq.{get_or-drop}
 use lib.Dec.{lit<}
-use Rattle.model.specs.declared.Answer.{Answer}
-use Rattle.model.specs.declared.Answer.TheVariants.{Done}
 use Rattle.model.specs.Lists.{pick_from}
-use Rattle.model.specs.declared.Kind.{Kind}
+use Rattle.model.specs.Layout.{Kind}
 use Rattle.model.specs.Layout.{layout_of}
 use Rattle.model.specs.Board.{greatest, block_count, free}
 use Rattle.model.specs.Calls.{lowest}
@@ -33,7 +33,7 @@ then_zeros (x ∷ xs) ys (suc i) z = then_zeros xs ys i z
 zeros_after : (m n : ℕ) → Zeros (drop n (replicate m 0))
 zeros_after m n i = get_or-drop n (replicate m 0) i 0 ∙ zeros_replicate m (n + i)
 
-module _ (kind : Kind) {b m : List ℕ} {r : Answer} {v top : ℕ} (s : Surveyed (layout_of kind) b r m) (z : r ≡ Done v) (et : top ≡ block_count (layout_of kind) b - 1) where
+module _ (kind : Kind) {b m : List ℕ} {r : Answer} {v top : ℕ} (s : Surveyed (layout_of kind) b r m) (z : r ≡ Ok v) (et : top ≡ block_count (layout_of kind) b - 1) where
   -- the board has at most 1,024 blocks
   pub few : top ≤ 1024
   few = rw et (short (layout_of kind) (words_pos kind) (figure kind) b (sound (layout_of kind) b v (sym s.answer ∙ z)).words)

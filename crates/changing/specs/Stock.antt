@@ -1,6 +1,6 @@
 -- The table of free blocks that a write is planned with.
 use Rattle.std.specs.Prelude.{◌≡◌, List, ℕ, length}
-use Rattle.model.specs.declared.Kind.{Kind}
+use Rattle.model.specs.Layout.{Kind}
 use Rattle.model.specs.Layout.{layout_of}
 use Rattle.model.specs.Board.{free}
 use Rattle.model.specs.Calls.{lowest}

@@ -1,13 +1,11 @@
 -- The marked set of document 01's bench examples as one table, and writes past the end (N3 of document 02) as another. proofs/Marked.antt proves that
 -- every row holds.
-use Rattle.std.specs.Prelude.{Bool, true, false, ◌&&◌, List, [], ◌∷◌, ◌++◌, ℕ, suc, ◌*◌, length, drop, replicate, eqb}
+use Rattle.std.specs.Prelude.{Bool, true, false, ◌&&◌, List, [], ◌∷◌, ◌++◌, ℕ, suc, ◌*◌, length, drop, replicate, eqb, Ok, Err}
 use Rattle.model.specs.declared.Fault.TheVariants.{End, FreeBlocks, PlanLength}
-use Rattle.model.specs.declared.Answer.{Answer}
-use Rattle.model.specs.declared.Answer.TheVariants.{Done, Refused}
 use Rattle.model.specs.Lists.{all}
 use Rattle.model.specs.Layout.{house}
 use Rattle.model.specs.Board.{contents}
-use Rattle.model.specs.Answers.{number, counted}
+use Rattle.model.specs.Answers.{number, counted, Answer}
 use Rattle.model.specs.Change.{write_plan}
 use Rattle.model.specs.Calls.{free_count_answer, Planned, lowest, write, set_length, format, perform_board}
 
@@ -80,17 +78,17 @@ same_list (x ∷ xs) [] = false
 same_list (x ∷ xs) (y ∷ ys) = eqb x y && same_list xs ys
 
 unfoldable pub same_answer : Answer → Answer → Bool
-same_answer (Done m) (Done n) = eqb m n
-same_answer (Done m) (Refused f) = false
-same_answer (Refused e) (Done n) = false
-same_answer (Refused e) (Refused f) = eqb (number e) (number f)
+same_answer (Ok m) (Ok n) = eqb m n
+same_answer (Ok m) (Err f) = false
+same_answer (Err e) (Ok n) = false
+same_answer (Err e) (Err f) = eqb (number e) (number f)
 
 -- what is to be seen is seen, of what the call answers and leaves in the slice, the board once it is performed, and the blocks it takes
 unfoldable pub saw : Planned → List ℕ → ℕ → List ℕ → Seen → Bool
 saw p b taken lent (answers a) = same_answer p.answer a
 saw p b taken lent (plans ws) = same_list p.slice (ws ++ drop (length ws) lent)
 saw p b taken lent (takes n) = eqb taken n
-saw p b taken lent (leaves_free n) = same_answer (free_count_answer house b) (Done n)
+saw p b taken lent (leaves_free n) = same_answer (free_count_answer house b) (Ok n)
 saw p b taken lent (reads bytes) = same_list (contents house b 0) bytes
 
 -- every thing that a row says
@@ -131,46 +129,46 @@ E8-plan = filled 88 (80 ∷ replicate 7 0) ++ fence ++ (16 ∷ 89 ∷ []) ++ fen
 
 -- E1: *Free count 5. (On 1,024 blocks: 1,013.)*
 unfoldable pub E1-rows : List Row
-E1-rows = row [] counts_free 0 (answers (Done 5) ∷ [])
-    ∷ record { blocks_of = 1024; first = []; call = counts_free; room = 0; seen_then = answers (Done 1013) ∷ [] }
+E1-rows = row [] counts_free 0 (answers (Ok 5) ∷ [])
+    ∷ record { blocks_of = 1024; first = []; call = counts_free; room = 0; seen_then = answers (Ok 1013) ∷ [] }
     ∷ []
 
 -- E2: *11 pairs; 22 plan words suffice, 21 give 8. Free 4.*
 unfoldable pub E2-rows : List Row
-E2-rows = row [] E2 22 (answers (Done 11) ∷ plans E2-plan ∷ leaves_free 4 ∷ reads (65 ∷ 66 ∷ []) ∷ [])
-    ∷ row [] E2 21 (answers (Refused PlanLength) ∷ plans [] ∷ [])
+E2-rows = row [] E2 22 (answers (Ok 11) ∷ plans E2-plan ∷ leaves_free 4 ∷ reads (65 ∷ 66 ∷ []) ∷ [])
+    ∷ row [] E2 21 (answers (Err PlanLength) ∷ plans [] ∷ [])
     ∷ []
 
 -- E3: *word 80 = 16986, one pair.*
 unfoldable pub E3-row : Row
-E3-row = row (E2 ∷ []) (writes 0 (90 ∷ [])) 4 (answers (Done 1) ∷ plans (80 ∷ 16986 ∷ []) ∷ reads (90 ∷ 66 ∷ []) ∷ [])
+E3-row = row (E2 ∷ []) (writes 0 (90 ∷ [])) 4 (answers (Ok 1) ∷ plans (80 ∷ 16986 ∷ []) ∷ reads (90 ∷ 66 ∷ []) ∷ [])
 
 -- E4: *18 pairs. Free 4 afterwards.*
 unfoldable pub E4-row : Row
-E4-row = row (E2 ∷ []) (writes 1 (67 ∷ 68 ∷ [])) 40 (answers (Done 18) ∷ plans E4-plan ∷ leaves_free 4 ∷ reads (65 ∷ 67 ∷ 68 ∷ []) ∷ [])
+E4-row = row (E2 ∷ []) (writes 1 (67 ∷ 68 ∷ [])) 40 (answers (Ok 18) ∷ plans E4-plan ∷ leaves_free 4 ∷ reads (65 ∷ 67 ∷ 68 ∷ []) ∷ [])
 
 -- E5: *word 17 = 0. Free 5.*
 unfoldable pub E5-row : Row
-E5-row = row (E2 ∷ []) (sets_length 0) 4 (answers (Done 1) ∷ plans (17 ∷ 0 ∷ []) ∷ leaves_free 5 ∷ reads [] ∷ [])
+E5-row = row (E2 ∷ []) (sets_length 0) 4 (answers (Ok 1) ∷ plans (17 ∷ 0 ∷ []) ∷ leaves_free 5 ∷ reads [] ∷ [])
 
 -- E6: *The byte reads 0, not 65.*
 unfoldable pub E6-row : Row
-E6-row = row (E2 ∷ sets_length 0 ∷ []) (sets_length 1) 8 (answers (Done 3) ∷ plans ((16 ∷ 0 ∷ []) ++ fence ++ (17 ∷ 1 ∷ [])) ∷ reads (0 ∷ []) ∷ [])
+E6-row = row (E2 ∷ sets_length 0 ∷ []) (sets_length 1) 8 (answers (Ok 3) ∷ plans ((16 ∷ 0 ∷ []) ++ fence ++ (17 ∷ 1 ∷ [])) ∷ reads (0 ∷ []) ∷ [])
 
 -- E7: *word 80 = 16961, 81 = 0; barrier; 17 = 10.*
 unfoldable pub E7-row : Row
 E7-row = row (E2 ∷ []) (sets_length 10) 8
-    (answers (Done 4) ∷ plans ((80 ∷ 16961 ∷ 81 ∷ 0 ∷ []) ++ fence ++ (17 ∷ 10 ∷ [])) ∷ reads (65 ∷ 66 ∷ replicate 8 0) ∷ [])
+    (answers (Ok 4) ∷ plans ((80 ∷ 16961 ∷ 81 ∷ 0 ∷ []) ++ fence ++ (17 ∷ 10 ∷ [])) ∷ reads (65 ∷ 66 ∷ replicate 8 0) ∷ [])
 
 -- E8: *21 pairs.*
 unfoldable pub E8-row : Row
 E8-row = row (E2 ∷ sets_length 100 ∷ []) (writes 99 (7 ∷ [])) 50
-    (answers (Done 21) ∷ plans E8-plan ∷ reads ((65 ∷ 66 ∷ replicate 97 0) ++ (7 ∷ [])) ∷ [])
+    (answers (Ok 21) ∷ plans E8-plan ∷ reads ((65 ∷ 66 ∷ replicate 97 0) ++ (7 ∷ [])) ∷ [])
 
 -- E9: *256 bytes need 5 blocks and are accepted; 257 need 6: refused 7.*
 unfoldable pub E9-rows : List Row
-E9-rows = row [] (writes 0 (replicate 256 1)) 100 (takes 5 ∷ answers (Done 43) ∷ leaves_free 0 ∷ reads (replicate 256 1) ∷ [])
-    ∷ row [] (writes 0 (replicate 257 1)) 100 (takes 6 ∷ answers (Refused FreeBlocks) ∷ plans [] ∷ leaves_free 5 ∷ reads [] ∷ [])
+E9-rows = row [] (writes 0 (replicate 256 1)) 100 (takes 5 ∷ answers (Ok 43) ∷ leaves_free 0 ∷ reads (replicate 256 1) ∷ [])
+    ∷ row [] (writes 0 (replicate 257 1)) 100 (takes 6 ∷ answers (Err FreeBlocks) ∷ plans [] ∷ leaves_free 5 ∷ reads [] ∷ [])
     ∷ []
 
 -- the marked set
@@ -186,13 +184,13 @@ past_plan w = filled 88 (w ∷ replicate 7 0) ++ filled 96 (88 ∷ 4 ∷ replica
 -- it; the same over an old byte past the size, 66; then *with L = 0 the plan is still empty*, up to the last offset; *with size 0 the tail way*, an old
 -- root in the inode; a size at a block's edge, after growth; holes on the path to byte s − 1, after growth by two levels and by one
 unfoldable pub past_end : List Row
-past_end = row (E2 ∷ []) (writes 3 (67 ∷ [])) 40 (answers (Done 18) ∷ plans (past_plan 1124090433) ∷ leaves_free 4 ∷ reads (65 ∷ 66 ∷ 0 ∷ 67 ∷ []) ∷ [])
-    ∷ row (E2 ∷ sets_length 1 ∷ []) (writes 3 (67 ∷ [])) 40 (answers (Done 18) ∷ plans (past_plan 1124073537) ∷ leaves_free 4 ∷ reads (65 ∷ 0 ∷ 0 ∷ 67 ∷ []) ∷ [])
-    ∷ row (E2 ∷ []) (writes 3 []) 0 (answers (Done 0) ∷ reads (65 ∷ 66 ∷ []) ∷ [])
-    ∷ row (E2 ∷ []) (writes 32768 []) 0 (answers (Done 0) ∷ reads (65 ∷ 66 ∷ []) ∷ [])
-    ∷ row (E2 ∷ []) (writes 32769 []) 0 (answers (Refused End) ∷ reads (65 ∷ 66 ∷ []) ∷ [])
-    ∷ row (E2 ∷ sets_length 0 ∷ []) (writes 100 (7 ∷ [])) 40 (takes 2 ∷ answers (Done 19) ∷ reads (replicate 100 0 ++ (7 ∷ [])) ∷ [])
-    ∷ record { blocks_of = 24; first = writes 0 (replicate 64 1) ∷ []; call = writes 65 (7 ∷ []); room = 90; seen_then = takes 5 ∷ answers (Done 45) ∷ reads (replicate 64 1 ++ (0 ∷ 7 ∷ [])) ∷ [] }
-    ∷ record { blocks_of = 24; first = E2 ∷ sets_length 100 ∷ []; call = writes 600 (7 ∷ []); room = 130; seen_then = takes 7 ∷ answers (Done 61) ∷ leaves_free 8 ∷ [] }
-    ∷ row (E2 ∷ sets_length 100 ∷ []) (writes 130 (7 ∷ [])) 80 (takes 4 ∷ answers (Done 37) ∷ leaves_free 2 ∷ reads ((65 ∷ 66 ∷ replicate 128 0) ++ (7 ∷ [])) ∷ [])
+past_end = row (E2 ∷ []) (writes 3 (67 ∷ [])) 40 (answers (Ok 18) ∷ plans (past_plan 1124090433) ∷ leaves_free 4 ∷ reads (65 ∷ 66 ∷ 0 ∷ 67 ∷ []) ∷ [])
+    ∷ row (E2 ∷ sets_length 1 ∷ []) (writes 3 (67 ∷ [])) 40 (answers (Ok 18) ∷ plans (past_plan 1124073537) ∷ leaves_free 4 ∷ reads (65 ∷ 0 ∷ 0 ∷ 67 ∷ []) ∷ [])
+    ∷ row (E2 ∷ []) (writes 3 []) 0 (answers (Ok 0) ∷ reads (65 ∷ 66 ∷ []) ∷ [])
+    ∷ row (E2 ∷ []) (writes 32768 []) 0 (answers (Ok 0) ∷ reads (65 ∷ 66 ∷ []) ∷ [])
+    ∷ row (E2 ∷ []) (writes 32769 []) 0 (answers (Err End) ∷ reads (65 ∷ 66 ∷ []) ∷ [])
+    ∷ row (E2 ∷ sets_length 0 ∷ []) (writes 100 (7 ∷ [])) 40 (takes 2 ∷ answers (Ok 19) ∷ reads (replicate 100 0 ++ (7 ∷ [])) ∷ [])
+    ∷ record { blocks_of = 24; first = writes 0 (replicate 64 1) ∷ []; call = writes 65 (7 ∷ []); room = 90; seen_then = takes 5 ∷ answers (Ok 45) ∷ reads (replicate 64 1 ++ (0 ∷ 7 ∷ [])) ∷ [] }
+    ∷ record { blocks_of = 24; first = E2 ∷ sets_length 100 ∷ []; call = writes 600 (7 ∷ []); room = 130; seen_then = takes 7 ∷ answers (Ok 61) ∷ leaves_free 8 ∷ [] }
+    ∷ row (E2 ∷ sets_length 100 ∷ []) (writes 130 (7 ∷ [])) 80 (takes 4 ∷ answers (Ok 37) ∷ leaves_free 2 ∷ reads ((65 ∷ 66 ∷ replicate 128 0) ++ (7 ∷ [])) ∷ [])
     ∷ []

@@ -1,4 +1,5 @@
 -- Format: the parts of its plan as they are laid, and its ways out.
+use Rattle.std.specs.Prelude.{Ok, Err}
 use mathlib.Core.Path.{◌≡◌, refl, sym, ap, ◌∙◌}
 use mathlib.Core.Bool.{Bool, true, false}
 use mathlib.Core.List.{List, [], ◌∷◌, ◌++◌}
@@ -9,9 +10,8 @@ use native.Mathlib.Numerals.{add-one}
 use lib.ListN.{length, replicate, length-replicate, replicate-append-replicate}
 use borrow.Author.Tests.{le-ltb, lt-ltb}
 use Rattle.model.specs.declared.Fault.TheVariants.{WordCount, PlanLength}
-use Rattle.model.specs.declared.Answer.TheVariants.{Done, Refused}
 use Rattle.model.specs.Lists.{tabulate}
-use Rattle.model.specs.declared.Kind.{Kind}
+use Rattle.model.specs.Layout.{Kind}
 use Rattle.model.specs.Layout.{Layout, Fits, layout_of}
 use Rattle.model.specs.Board.{block_count, trailer_word, word_count_sound}
 use Rattle.model.specs.Store.{Store, store, barrier, fenced, laid}
@@ -157,12 +157,12 @@ module _ (kind : Kind) (b : List ℕ) where
   abbrev plan : List Store
   plan = pairs (format_plan (layout_of kind) b)
 
-  pub miscounted : {l : List ℕ} {w : Bool} → w ≡ word_count_sound (layout_of kind) b → w ≡ false → PlanResult (format (layout_of kind) b l) (Refused WordCount) l
+  pub miscounted : {l : List ℕ} {w : Bool} → w ≡ word_count_sound (layout_of kind) b → w ≡ false → PlanResult (format (layout_of kind) b l) (Err WordCount) l
   unfolding format word_count_fault answered
   miscounted {l} e z = turned (word_count_fault (layout_of kind) b) plan l 0 (sym (rw (← e, z))) refl
 
   module _ {w : Bool} (e : w ≡ word_count_sound (layout_of kind) b) (z : w ≡ true) (n : ℕ) (en : n ≡ (layout_of kind).words * ((layout_of kind).leaves + 2) + 3) where
-    counts : Done 0 ≡ answered (word_count_fault (layout_of kind) b) 0
+    counts : Ok 0 ≡ answered (word_count_fault (layout_of kind) b) 0
     unfolding word_count_fault answered
     counts = sym (rw (← e, z))
 
@@ -170,11 +170,11 @@ module _ (kind : Kind) (b : List ℕ) where
     count : n ≡ 0 + length plan
     count = omega (arith, format_pairs (layout_of kind) (fits kind) b)
 
-    pub short : {l : List ℕ} → length l < 2 * n → PlanResult (format (layout_of kind) b l) (Refused PlanLength) l
+    pub short : {l : List ℕ} → length l < 2 * n → PlanResult (format (layout_of kind) b l) (Err PlanLength) l
     unfolding format
     short {l} h = too_short (word_count_fault (layout_of kind) b) plan l 0 counts refl count (omega arith)
 
-    pub done : (l : List ℕ) {l' : List ℕ} → 2 * n ≤ length l → l' ≡ laid l 0 plan → PlanResult (format (layout_of kind) b l) (Done n) l'
+    pub done : (l : List ℕ) {l' : List ℕ} → 2 * n ≤ length l → l' ≡ laid l 0 plan → PlanResult (format (layout_of kind) b l) (Ok n) l'
     unfolding format
     done l h e' = long_enough (word_count_fault (layout_of kind) b) plan l 0 counts refl count (omega arith) e'
 

@@ -1,6 +1,6 @@
 -- A figure of format's plan, with what is known of it.
 use Rattle.std.specs.Prelude.{◌≡◌, ℕ, ◌+◌, ◌*◌, ◌≤◌}
-use Rattle.model.specs.declared.Kind.{Kind}
+use Rattle.model.specs.Layout.{Kind}
 use Rattle.model.specs.Layout.{layout_of}
 
 -- the place in format's plan of the first store to the trailer's words from word 1 on: at most 14 blocks of 512 words lie before it

@@ -1,4 +1,5 @@
 -- Answers as C gets them, and that none is too great for a signed number.
+use Rattle.std.specs.Prelude.{Err}
 use mathlib.Core.Path.{◌≡◌, ap, ◌∙◌}
 use mathlib.Core.Logic.{inl, inr}
 use mathlib.Core.Bool.{Bool, true, false, not, cond, ◌||◌}
@@ -12,19 +13,17 @@ use mir.Facts.{to_z-of_z}
 use mir.Syntax.{w64}
 use mir.Val.{SFits, to_z, of_z}
 use borrow.Author.Tests.{lt-ltb}
-use Rattle.model.specs.declared.Answer.{Answer}
-use Rattle.model.specs.declared.Answer.TheVariants.{Refused}
 use Rattle.model.specs.declared.Fault.{Fault}
 use Rattle.model.specs.declared.Fault.TheVariants.{End, PlanLength, PairCount, Address}
 use Rattle.model.specs.Lists.{all}
-use Rattle.model.specs.declared.Kind.{Kind}
+use Rattle.model.specs.Layout.{Kind}
 use Rattle.model.specs.Layout.{layout_of}
 use Rattle.model.specs.Board.{greatest}
 use Rattle.model.specs.Store.{Store, is_barrier, paired}
 use Rattle.model.specs.Plan.{Plan, pairs}
 use Rattle.model.specs.Change.{write_plan, length_plan}
 use Rattle.model.specs.Format.{format_plan}
-use Rattle.model.specs.Answers.{Faults, answered, counted, signed}
+use Rattle.model.specs.Answers.{Faults, answered, counted, signed, Answer}
 use Rattle.model.specs.Calls.{word_count_fault, file_faults, Planned, planned, lowest, write_faults, write_from, write, set_length, format, perform_faults, perform_answer}
 use Rattle.model.proofs.Cases.{split}
 use Rattle.plans.specs.Laying.{PlanResult}
@@ -42,7 +41,7 @@ unfolding answered counted
 found_none [] gs x n = omega arith
 found_none (t ∷ ts) gs x n = by t.1 (found_none ts gs x n)
   where
-    by : (s : Bool) → counted (answered (ts ++ ((x, true) ∷ gs)) n) ≤ 0 → counted (cond s (Refused t.0) (answered (ts ++ ((x, true) ∷ gs)) n)) ≤ 0
+    by : (s : Bool) → counted (answered (ts ++ ((x, true) ∷ gs)) n) ≤ 0 → counted (cond s (Err t.0) (answered (ts ++ ((x, true) ∷ gs)) n)) ≤ 0
     by true h = omega arith
     by false h = h
 

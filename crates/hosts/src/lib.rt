@@ -10,14 +10,14 @@ ghost use Rattle.model.specs.Calls.{check_answer, free_count_answer, size_answer
 ghost use Rattle.forms.specs.Results.{WordsRead, WordsPlan, WordsPerform};
 
 use answers::signed;
-use model::WalkEnd;
+use kinds::House;
 
 // Check: 0, or -1, -2, -3.
 #[unsafe(no_mangle)]
 pub extern "C" fn montebeech_words_check(board: &[u64]) -> i64
     ensures { result ≡ signed (check_answer house board.now) }
 {
-    signed(reading::check(board))
+    signed(reading::check::<House>(board))
 }
 
 // Free count: the number of free blocks, or -1, -2, -3.
@@ -25,7 +25,7 @@ pub extern "C" fn montebeech_words_check(board: &[u64]) -> i64
 pub extern "C" fn montebeech_words_free_count(board: &[u64]) -> i64
     ensures { result ≡ signed (free_count_answer house board.now) }
 {
-    signed(reading::free_count(board))
+    signed(reading::free_count::<House>(board))
 }
 
 // Size: a file's size, or -1, -2, -3, -4.
@@ -33,7 +33,7 @@ pub extern "C" fn montebeech_words_free_count(board: &[u64]) -> i64
 pub extern "C" fn montebeech_words_size(board: &[u64], file: u64) -> i64
     ensures { result ≡ signed (size_answer house board.now file) }
 {
-    signed(reading::size(board, file))
+    signed(reading::size::<House>(board, file))
 }
 
 // Read: fills `out` from byte `offset` on and answers the count, or -1, -2, -3, -4.
@@ -46,7 +46,7 @@ pub extern "C" fn montebeech_words_read(
 ) -> i64
     ensures { WordsRead house board.now file offset out.old result out.new }
 {
-    signed(reading::read(board, file, offset, out))
+    signed(reading::read::<House>(board, file, offset, out))
 }
 
 // The walk to a byte of a file: the number of the block where it ends, 0 for a hole. It refuses nothing.
@@ -55,7 +55,7 @@ pub extern "C" fn montebeech_words_walk(board: &[u64], file: u64, byte: u64) -> 
     ensures { result ≡ ended (walk_to house board.now file byte) }
 {
     let end = reading::walk_to(board, file, byte);
-    let WalkEnd::Block(k) = end else {
+    let Some(k) = end else {
         return 0;
     };
     k as i64
@@ -72,7 +72,7 @@ pub extern "C" fn montebeech_words_write(
 ) -> i64
     ensures { WordsPlan (write house board.now file offset bytes.now plan.old) result plan.new }
 {
-    signed(changing::write(board, file, offset, bytes, plan))
+    signed(changing::write::<House>(board, file, offset, bytes, plan))
 }
 
 // Length change: plans `length` as a file's size and answers the pair count, or -1, -2, -3, -4, -6, -8.
@@ -85,7 +85,7 @@ pub extern "C" fn montebeech_words_set_length(
 ) -> i64
     ensures { WordsPlan (set_length house board.now file length plan.old) result plan.new }
 {
-    signed(changing::set_length(board, file, length, plan))
+    signed(changing::set_length::<House>(board, file, length, plan))
 }
 
 // Format: plans 32 empty files and answers the pair count, or -1, -8.
@@ -93,7 +93,7 @@ pub extern "C" fn montebeech_words_set_length(
 pub extern "C" fn montebeech_words_format(board: &[u64], plan: &mut [u64]) -> i64
     ensures { WordsPlan (format house board.now plan.old) result plan.new }
 {
-    signed(formatting::format(board, plan))
+    signed(formatting::format::<House>(board, plan))
 }
 
 // Perform: the first `pairs` pairs of a plan; answers their number, or -1, -9, -10.
@@ -101,5 +101,5 @@ pub extern "C" fn montebeech_words_format(board: &[u64], plan: &mut [u64]) -> i6
 pub extern "C" fn montebeech_words_perform(board: &mut [u64], plan: &[u64], pairs: u64) -> i64
     ensures { WordsPerform house board.old plan.now pairs result board.new }
 {
-    signed(performing::perform(board, plan, pairs))
+    signed(performing::perform::<House>(board, plan, pairs))
 }

@@ -1,16 +1,16 @@
 -- The board of an image answers what the image is to answer.
-use mathlib.Core.Path.{◌≡◌, refl, sym, ap}
+use mathlib.Core.Path.{◌≡◌, refl}
 use mathlib.Core.Logic.{◌⊎◌, inl, inr}
 use mathlib.Core.Bool.{Bool, true, false, not, and-false}
 use mathlib.Core.List.{List, [], ◌∷◌, ◌++◌}
 use Prim.Native.Nat.{ℕ, ◌+◌, ◌*◌, ◌/◌, ◌%◌, ◌≤◌, ◌<◌}
 use native.Mathlib.Omega.{arith}
-use lib.ListN.{length, get_or, take, drop, length-append}
-use lib.Seq.{take_at, length-take-le}
+use lib.ListN.{length, get_or, take, drop}
+use lib.Seq.{take_at}
 use lib.Dec.{leb, eqb}
 use borrow.Author.Tests.{leb-false, eqb-true, lt-leb, le-leb, eq-eqb, ne_eqb}
 use Rattle.model.specs.declared.Fault.TheVariants.{WordCount, Trailer, Damaged, FileNumber}
-use Rattle.model.specs.declared.Answer.TheVariants.{Refused}
+use Rattle.std.specs.Prelude.{Err}
 use Rattle.model.specs.Words.{word_of, words_of}
 use Rattle.model.specs.Layout.{house, files}
 use Rattle.model.specs.Board.{word_count_sound, trailer_sound, trees_sound}
@@ -18,7 +18,7 @@ use Rattle.model.specs.Answers.{Faults, answered}
 use Rattle.model.specs.Calls.{word_count_fault, board_faults, file_faults, check_answer}
 use Rattle.model.specs.Cabinet.{image_faults, image_check_answer}
 use Rattle.model.proofs.Perform.{length_tabulate}
-use Rattle.images.specs.Images.{board_of, Loaded}
+use Rattle.images.specs.Images.{board_of}
 
 module _ (image : List ℕ) where
   length_words : length (words_of image) ≡ length image / 8
@@ -26,22 +26,19 @@ module _ (image : List ℕ) where
   length_words = length_tabulate (length image / 8) (λ w. word_of 8 (λ i. get_or image (8 * w + i) 0))
 
   -- the ways out of `load`
-  pub part_of_word : {words : List ℕ} → (length image % 8 ≡ 0 → ⊥) → Loaded image 0 words
+  pub part_of_word : (length image % 8 ≡ 0 → ⊥) → [] ≡ board_of image
   unfolding board_of
-  part_of_word h = record { within = omega arith; board = rw (ne_eqb (length image % 8) 0 h) }
+  part_of_word h = rw (ne_eqb (length image % 8) 0 h)
 
-  pub too_long : {words : List ℕ} → 65536 < length image → Loaded image 0 words
+  pub too_long : 65536 < length image → [] ≡ board_of image
   unfolding board_of
-  too_long h = record { within = omega arith; board = rw (lt-leb (length image) 65536 h, and-false) }
+  too_long h = rw (lt-leb (length image) 65536 h, and-false)
 
   pub decoded : (old : List ℕ) {words : List ℕ} → length image % 8 ≡ 0 → length image ≤ 65536 →
-      words ≡ words_of image ++ drop (length image / 8) old → Loaded image (length image / 8) words
+      words ≡ words_of image ++ drop (length image / 8) old → take (length image / 8) words ≡ board_of image
   unfolding board_of
-  decoded old e h w = record {
-    within = omega (arith, length_words, ap length w, length-append (words_of image) (drop (length image / 8) old));
-    board = rw (w, eq-eqb (length image % 8) 0 e, le-leb (length image) 65536 h)
-        (take_at (words_of image) (drop (length image / 8) old) (length image / 8) length_words);
-  }
+  decoded old e h w =
+      rw (w, eq-eqb (length image % 8) 0 e, le-leb (length image) 65536 h) (take_at (words_of image) (drop (length image / 8) old) (length image / 8) length_words)
 
   -- An image is read as its words, where its byte count is not refused; or as no words, where it is refused for its byte count or for its word count.
   abbrev Whole : Type 0
@@ -49,7 +46,7 @@ module _ (image : List ℕ) where
 
   abbrev None : Type 0
   None = (board_of image ≡ [])
-      × ((rest : Faults) (n : ℕ) → answered (image_faults image ++ (word_count_fault house (words_of image) ++ rest)) n ≡ Refused WordCount)
+      × ((rest : Faults) (n : ℕ) → answered (image_faults image ++ (word_count_fault house (words_of image) ++ rest)) n ≡ Err WordCount)
 
   long : length image % 8 ≡ 0 → 65536 < length image → word_count_sound house (words_of image) ≡ false
   unfolding word_count_sound
@@ -85,7 +82,3 @@ module _ (image : List ℕ) where
   unfolding file_faults board_faults word_count_fault
   file_answer f n =
       image_answer (λ b. (Trailer, not (trailer_sound house b)) ∷ (Damaged, not (trees_sound house b)) ∷ (FileNumber, leb (files house) f) ∷ []) n
-
--- the words that are lent
-pub length_part : {image words : List ℕ} {n : ℕ} → Loaded image n words → n ≡ length (take n words)
-length_part {image} {words} {n} c = sym (length-take-le n words c.within)

@@ -1,23 +1,20 @@
 // A board image: eight bytes to a word, byte 0 first.
 #![tactic(auto)]
 
-ghost use Rattle.std.specs.Prelude.{◌≤◌, length};
-ghost use Rattle.images.specs.Images.{Loaded};
+ghost use Rattle.std.specs.Prelude.{◌≡◌, ◌≤◌, length};
+ghost use Rattle.images.specs.Images.{board_of};
 
 use words::decode;
 
-// Decodes an image and answers how many words its board has: none where the image is refused for its byte count.
-pub fn load(image: &[u8], words: &mut [u64]) -> usize
+// Decodes an image into a buffer and answers the words of its board: none where the image is refused for its byte count.
+pub fn load<'a>(image: &[u8], words: &'a mut [u64]) -> &'a [u64]
     requires { 8192 ≤ length words.old }
-    ensures { Loaded image.now result words.new }
+    ensures { result.now ≡ board_of image.now }
 {
     let n = image.len();
-    if n % 8 != 0 {
-        return 0;
-    }
-    if 65536 < n {
-        return 0;
+    if n % 8 != 0 || 65536 < n {
+        return &[];
     }
     decode(image, words);
-    n / 8
+    &words[..n / 8]
 }

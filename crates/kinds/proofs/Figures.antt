@@ -2,8 +2,8 @@
 use mathlib.Core.Path.{◌≡◌, refl}
 use Prim.Native.Nat.{ℕ, ◌+◌, ◌*◌, ◌/◌, ◌%◌, ◌^◌, ◌≤◌, ◌<◌}
 use native.Mathlib.Omega.{arith}
-use Rattle.model.specs.declared.Kind.{Kind}
-use Rattle.model.specs.declared.Kind.TheVariants.{House, Published}
+use Rattle.model.specs.Layout.{Kind}
+use Rattle.model.specs.Layout.{House, Published}
 use Rattle.model.specs.Layout.{layout_of, files}
 use Rattle.model.specs.Tree.{span}
 use Rattle.model.specs.Board.{greatest}

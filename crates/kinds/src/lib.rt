@@ -1,146 +1,190 @@
-// The figures of a kind of board, as numbers.
+// The figures of a kind of board.
 #![tactic(auto)]
 
-ghost use Rattle.std.specs.Prelude.{◌≡◌, ◌*◌, ◌/◌, ◌%◌, ◌^◌, ◌≤◌, ◌<◌};
-ghost use Rattle.model.specs.Layout.{layout_of};
+ghost use Rattle.std.specs.Prelude.{ℕ, ◌≡◌, ◌*◌, ◌/◌, ◌%◌, ◌^◌, ◌≤◌, ◌<◌};
+ghost use Rattle.model.specs.Layout.{Kind, layout_of};
 ghost use Rattle.model.specs.Tree.{least};
 ghost use Rattle.model.specs.Board.{greatest};
-ghost use Rattle.kinds.specs.Figures.{Bits, InodeBits, Words, Most};
+ghost use Rattle.kinds.specs.Figures.{Figures, Words, house_kind, published_kind, house_width, house_figures, published_width, published_figures};
 
 use bands::least_height;
-use model::Kind;
-use words::{block_of, low_of, start_of, width};
+use words::{BlockSize, block_of, low_of, start_of, width};
 
-// A block has 2 ^ bits words.
-pub fn bits(kind: Kind) -> u64
-    ensures { Bits kind result }
-{
-    match kind {
-        Kind::House => 3,
-        Kind::Published => 9,
+// A kind of board, told by a type: code for each kind is compiled apart.
+pub trait Layout: BlockSize {
+    // A leaf has 2 inodes to this power.
+    const INODE_BITS: u64;
+
+    // the layout's mark in the trailer
+    const MARK: u64;
+
+    // the most blocks
+    const MOST: u64;
+
+    // how many inode leaves there are
+    const LEAVES: u64;
+
+    // the greatest height
+    const HEIGHT: u64;
+
+    // the greatest size
+    const SIZE: u64;
+
+    ghost INODE_BITS: { ℕ };
+
+    ghost MARK: { ℕ };
+
+    ghost MOST: { ℕ };
+
+    ghost LEAVES: { ℕ };
+
+    ghost HEIGHT: { ℕ };
+
+    ghost SIZE: { ℕ };
+
+    ghost kind: { Kind };
+
+    // The least height whose tree spans e bytes.
+    fn least_height(e: u64) -> u64
+        requires { e ≤ greatest (layout_of kind) }
+        ensures { result ≡ least (layout_of kind).words (layout_of kind).height e };
+
+    ghost figures: { Figures kind Self.BITS INODE_BITS MARK MOST LEAVES HEIGHT SIZE };
+}
+
+// document 01's board, with blocks of 8 words
+pub struct House;
+
+// N11 of document 02: a board with the published block, of 512 words
+pub struct Published;
+
+impl BlockSize for House {
+    const BITS: u64 = 3;
+
+    ghost BITS = { 3 };
+
+    ghost width = { house_width };
+}
+
+impl BlockSize for Published {
+    const BITS: u64 = 9;
+
+    ghost BITS = { 9 };
+
+    ghost width = { published_width };
+}
+
+impl Layout for House {
+    const INODE_BITS: u64 = 2;
+
+    const MARK: u64 = 1;
+
+    const MOST: u64 = 1024;
+
+    const LEAVES: u64 = 8;
+
+    const HEIGHT: u64 = 3;
+
+    const SIZE: u64 = 32768;
+
+    ghost INODE_BITS = { 2 };
+
+    ghost MARK = { 1 };
+
+    ghost MOST = { 1024 };
+
+    ghost LEAVES = { 8 };
+
+    ghost HEIGHT = { 3 };
+
+    ghost SIZE = { 32768 };
+
+    ghost kind = { house_kind };
+
+    ghost figures = { house_figures };
+
+    // by the bench sheet
+    fn least_height(e: u64) -> u64 {
+        least_height(e)
     }
 }
 
-// A leaf has 2 inodes to this power.
-fn inode_bits(kind: Kind) -> u64
-    ensures { InodeBits kind result }
-{
-    match kind {
-        Kind::House => 2,
-        Kind::Published => 5,
-    }
-}
+impl Layout for Published {
+    const INODE_BITS: u64 = 5;
 
-// The layout's mark in the trailer.
-pub fn mark(kind: Kind) -> u64
-    ensures { result ≡ (layout_of kind).mark }
-{
-    match kind {
-        Kind::House => 1,
-        Kind::Published => 3,
-    }
-}
+    const MARK: u64 = 3;
 
-// The most blocks of a board.
-pub fn most(kind: Kind) -> u64
-    ensures { Most kind result }
-{
-    match kind {
-        Kind::House => 1024,
-        Kind::Published => 512,
-    }
-}
+    const MOST: u64 = 512;
 
-// How many inode leaves there are.
-pub fn leaf_count(kind: Kind) -> u64
-    ensures { result ≡ (layout_of kind).leaves }
-{
-    match kind {
-        Kind::House => 8,
-        Kind::Published => 1,
-    }
-}
+    const LEAVES: u64 = 1;
 
-// The greatest height.
-pub fn top_height(kind: Kind) -> u64
-    ensures { result ≡ (layout_of kind).height }
-{
-    match kind {
-        Kind::House => 3,
-        Kind::Published => 1,
-    }
-}
+    const HEIGHT: u64 = 1;
 
-// The greatest size.
-pub fn top_size(kind: Kind) -> u64
-    ensures { result ≡ greatest (layout_of kind) }
-{
-    match kind {
-        Kind::House => 32768,
-        Kind::Published => 2097152,
-    }
-}
+    const SIZE: u64 = 2097152;
 
-// The least height whose tree spans e bytes, with the published block.
-fn published_height(e: u64) -> u64
-    ensures { result ≡ least 512 1 e }
-{
-    match e {
-        0..=4096 => 0,
-        _ => 1,
-    }
-}
+    ghost INODE_BITS = { 5 };
 
-// The least height whose tree spans e bytes: on a house board by the bench sheet.
-pub fn height_in(kind: Kind, e: u64) -> u64
-    requires { e ≤ greatest (layout_of kind) }
-    ensures { result ≡ least (layout_of kind).words (layout_of kind).height e }
-{
-    match kind {
-        Kind::House => least_height(e),
-        Kind::Published => published_height(e),
+    ghost MARK = { 3 };
+
+    ghost MOST = { 512 };
+
+    ghost LEAVES = { 1 };
+
+    ghost HEIGHT = { 1 };
+
+    ghost SIZE = { 2097152 };
+
+    ghost kind = { published_kind };
+
+    ghost figures = { published_figures };
+
+    fn least_height(e: u64) -> u64 {
+        match e {
+            0..=4096 => 0,
+            _ => 1,
+        }
     }
 }
 
 // The words of a block.
-pub fn words_in(kind: Kind) -> u64
-    ensures { Words kind result }
+pub fn words_in<L: Layout>() -> u64
+    ensures { Words L.kind result }
 {
-    width(bits(kind))
+    width::<L>()
 }
 
 // The block of a pointer.
-pub fn block_in(kind: Kind, p: u64) -> u64
-    ensures { result ≡ p / (layout_of kind).words }
+pub fn block_in<L: Layout>(p: u64) -> u64
+    ensures { result ≡ p / (layout_of L.kind).words }
 {
-    block_of(bits(kind), p)
+    block_of::<L>(p)
 }
 
 // The low bits of a pointer.
-pub fn low_in(kind: Kind, p: u64) -> u64
-    ensures { result ≡ p % (layout_of kind).words }
+pub fn low_in<L: Layout>(p: u64) -> u64
+    ensures { result ≡ p % (layout_of L.kind).words }
 {
-    low_of(bits(kind), p)
+    low_of::<L>(p)
 }
 
 // Where a block begins: the pointer to it.
-pub fn start_in(kind: Kind, k: u64) -> u64
-    requires { (layout_of kind).words * k < 2 ^ 64 }
-    ensures { result ≡ (layout_of kind).words * k }
+pub fn start_in<L: Layout>(k: u64) -> u64
+    requires { (layout_of L.kind).words * k < 2 ^ 64 }
+    ensures { result ≡ (layout_of L.kind).words * k }
 {
-    start_of(bits(kind), k)
+    start_of::<L>(k)
 }
 
 // The leaf of a file.
-pub fn leaf_in(kind: Kind, file: u64) -> u64
-    ensures { result ≡ file / (layout_of kind).inodes }
+pub fn leaf_in<L: Layout>(file: u64) -> u64
+    ensures { result ≡ file / (layout_of L.kind).inodes }
 {
-    block_of(inode_bits(kind), file)
+    file >> L::INODE_BITS
 }
 
 // Which of the leaf's inodes is a file's.
-pub fn inode_in(kind: Kind, file: u64) -> u64
-    ensures { result ≡ file % (layout_of kind).inodes }
+pub fn inode_in<L: Layout>(file: u64) -> u64
+    ensures { result ≡ file % (layout_of L.kind).inodes }
 {
-    low_of(inode_bits(kind), file)
+    file % (1 << L::INODE_BITS)
 }

@@ -6,18 +6,12 @@ ghost use Rattle.std.specs.Prelude.{◌≤◌, length};
 use std::io;
 use std::io::Read;
 
-// Reads until the buffer is full, the input ends or a read fails. The answer is how many bytes stand at the buffer's start.
+// Reads until the buffer is full, the input ends or a read fails: then a read gives no bytes. The answer is how many bytes stand at the buffer's start.
 fn read_full<R: Read>(input: &mut R, buf: &mut [u8]) -> usize
     ensures { result ≤ length buf.new }
 {
     let mut done = 0;
-    while done < buf.len() {
-        let Ok(n) = input.read(&mut buf[done..]) else {
-            break;
-        };
-        if n == 0 {
-            break;
-        }
+    while let Ok(n @ 1..) = input.read(&mut buf[done..]) {
         done += n;
     }
     done

@@ -1,4 +1,5 @@
 -- The lines of files, of a board and of an image.
+use Rattle.std.specs.Prelude.{Ok, Err}
 use mathlib.Core.Path.{◌≡◌, refl, sym, ap, ◌∙◌}
 use mathlib.Core.Logic.{inl, inr}
 use mathlib.Core.List.{List, [], ◌++◌}
@@ -6,65 +7,59 @@ use Prim.Native.Nat.{ℕ, ◌+◌, ◌*◌, ◌/◌, ◌%◌, ◌≤◌}
 use native.Mathlib.Omega.{arith}
 use lib.ListN.{length, take, drop}
 use lib.Seq.{sets-eq, take_at}
-use Rattle.model.specs.declared.Answer.{Answer}
-use Rattle.model.specs.declared.Answer.TheVariants.{Done, Refused}
 use Rattle.model.specs.declared.Fault.{Fault}
 use Rattle.model.specs.Lists.{joined}
 use Rattle.model.specs.Layout.{house, files}
 use Rattle.model.specs.Tree.{live}
 use Rattle.model.specs.Board.{root_blocks, block_count, root, size, file_blocks, free, word_count_sound}
-use Rattle.model.specs.Answers.{number, answered}
+use Rattle.model.specs.Answers.{number, answered, Answer}
 use Rattle.model.specs.Calls.{word_count_fault, board_faults, check_answer, free_count_answer}
 use Rattle.model.specs.Lister.{word_blocks, word_free, word_file, word_size, word_height, word_held, word_refused, field, line, held_count, file_line, board_lines, answer_lines, listing}
 use Rattle.model.proofs.Refusals.{same_refused, same_done}
 use Rattle.model.proofs.Trees.{live_some}
 use Rattle.trees.specs.Trees.{Counted}
-use Rattle.images.specs.Images.{board_of, Loaded}
+use Rattle.images.specs.Images.{board_of}
 use Rattle.images.proofs.Boards.{read_as, check_answer_law}
+use Rattle.text.specs.declared.Text.{Text}
 use Rattle.text.specs.Wrote.{Wrote}
 use Rattle.text.proofs.Writing.{none, both, loose, more}
 use Rattle.listing.specs.Listed.{Listed}
 
 -- the line of one file
-module _ (b : List ℕ) (f : ℕ) {n p : ℕ} {out : List ℕ} (es : n ≡ size house b f) where
-  pub no_line : n ≡ 0 → Wrote 106 (file_line house b f) p out p out
+module _ (b : List ℕ) (f : ℕ) {n : ℕ} {t : Text} (es : n ≡ size house b f) where
+  pub no_line : n ≡ 0 → Wrote 106 (file_line house b f) t t
   unfolding file_line live
   no_line z = rw (← es, z) (loose (omega arith) none)
 
-  pub one_line : {w d r : ℕ} {out' : List ℕ} → (n ≡ 0 → ⊥) → w ≡ root house b f → Counted 8 b (w % 8) (w / 8) n d →
-      Wrote 106 (line word_file f (field word_size n ++ field word_height (w % 8) ++ field word_held d)) p out r out' →
-      Wrote 106 (file_line house b f) p out r out'
+  pub one_line : {w d : ℕ} {t' : Text} → (n ≡ 0 → ⊥) → w ≡ root house b f → Counted 8 b (w % 8) (w / 8) n d →
+      Wrote 106 (line word_file f (field word_size n ++ field word_height (w % 8) ++ field word_held d)) t t' →
+      Wrote 106 (file_line house b f) t t'
   unfolding file_line held_count file_blocks root_blocks
   one_line z er c a = rw (← es, live_some n (omega (arith, z)), ← er, ← c.is) a
 
 -- the lines of the first f files
-module _ (b : List ℕ) {p : ℕ} {out : List ℕ} where
-  pub no_files : Wrote 0 (joined 0 (file_line house b)) p out p out
+module _ (b : List ℕ) {t : Text} where
+  pub no_files : Wrote 0 (joined 0 (file_line house b)) t t
   unfolding joined
   no_files = none
 
-  pub one_file_more : (f : ℕ) {q r : ℕ} {mid out' : List ℕ} → Wrote (106 * f) (joined f (file_line house b)) p out q mid →
-      Wrote 106 (file_line house b f) q mid r out' →
-      Wrote (106 * (f + 1)) (joined (f + 1) (file_line house b)) p out r out'
+  pub one_file_more : (f : ℕ) {u v : Text} → Wrote (106 * f) (joined f (file_line house b)) t u → Wrote 106 (file_line house b f) u v →
+      Wrote (106 * (f + 1)) (joined (f + 1) (file_line house b)) t v
   one_file_more f a c = loose (omega arith) (more (file_line house b) f a c)
 
-  pub all_files : (f : ℕ) {r : ℕ} {out' : List ℕ} → f ≤ 32 → 32 ≤ f → Wrote (106 * f) (joined f (file_line house b)) p out r out' →
-      Wrote 3392 (joined 32 (file_line house b)) p out r out'
-  all_files f h l a = let e : f ≡ 32 = omega arith in rw e at a
-
 -- Check and the free count refuse alike, so that the free count alone is asked for.
-module _ (b : List ℕ) {a : Answer} (ea : a ≡ free_count_answer house b) {out : List ℕ} where
-  pub refusal : {f : Fault} {n r : ℕ} {out' : List ℕ} → a ≡ Refused f → n ≡ number f → Wrote 29 (line word_refused n []) 0 out r out' →
-      Wrote 3446 (answer_lines house b (check_answer house b)) 0 out r out'
+module _ (b : List ℕ) {a : Answer} (ea : a ≡ free_count_answer house b) {t : Text} where
+  pub refusal : {f : Fault} {n : ℕ} {t' : Text} → a ≡ Err f → n ≡ number f → Wrote 29 (line word_refused n []) t t' →
+      Wrote 3446 (answer_lines house b (check_answer house b)) t t'
   unfolding free_count_answer check_answer answer_lines
   refusal z en w = rw (same_refused (board_faults house b) (length (free house b)) 0 ea z, z, ← en) (loose (omega arith) w)
 
-  pub board : {v n q r : ℕ} {mid out' : List ℕ} → a ≡ Done v → n ≡ block_count house b → Wrote 54 (line word_blocks n (field word_free v)) 0 out q mid →
-      Wrote 3392 (joined 32 (file_line house b)) q mid r out' → Wrote 3446 (answer_lines house b (check_answer house b)) 0 out r out'
+  pub board : {v n : ℕ} {u t' : Text} → a ≡ Ok v → n ≡ block_count house b → Wrote 54 (line word_blocks n (field word_free v)) t u →
+      Wrote 3392 (joined 32 (file_line house b)) u t' → Wrote 3446 (answer_lines house b (check_answer house b)) t t'
   unfolding free_count_answer check_answer answer_lines board_lines files
   board {v} z en w fs =
       let k : ℕ = length (free house b) in
-      let e : Done v ≡ Done k = sym z ∙ ea ∙ same_done (board_faults house b) k k ea z in
+      let e : Ok v ≡ Ok k = sym z ∙ ea ∙ same_done (board_faults house b) k k ea z in
       let ev : v ≡ k = cc in
       rw (same_done (board_faults house b) k 0 ea z, ← en, ← ev) (both w fs)
 
@@ -75,14 +70,15 @@ listing_of image = rw (check_answer_law image) (elim (read_as image) [
   | inr w ↦ rw w.0
 ])
 
-pub listed : {image words : List ℕ} {n : ℕ} {out : List ℕ} {r : ℕ} {out' : List ℕ} → Loaded image n words →
-    Wrote 3446 (answer_lines house (take n words) (check_answer house (take n words))) 0 out r out' → Listed image out r out'
-listed {image} {words} {n} c w =
-    let e : answer_lines house (take n words) (check_answer house (take n words)) ≡ listing house image = rw c.board (sym (listing_of image)) in
+-- the text was empty before, and its buffer is lent back
+pub listed : (image : List ℕ) {board : List ℕ} {t t' : Text} {out : List ℕ} → board ≡ board_of image → t.len ≡ 0 →
+    Wrote 3446 (answer_lines house board (check_answer house board)) t t' → out ≡ t'.out.now → Listed image t.out.now t'.len out
+listed image {board} {t} c z w o =
+    let e : answer_lines house board (check_answer house board) ≡ listing house image = rw c (sym (listing_of image)) in
     record {
       count = omega (arith, w.next, ap length e);
       most = omega (arith, w.next, w.short);
-      bytes = rw (← e) w.bytes;
+      bytes = rw (o, ← e, ← z) w.bytes;
     }
 
 -- the first r bytes of a buffer with room for any listing, which the program prints, are the listing

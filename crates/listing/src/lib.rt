@@ -9,53 +9,49 @@ ghost use Rattle.model.specs.Lister.{file_line, answer_lines};
 ghost use Rattle.text.specs.Wrote.{Wrote};
 ghost use Rattle.listing.specs.Listed.{Listed};
 
-use answers::number;
 use images::load;
-use kinds::{block_in, low_in};
-use model::{Answer, Kind};
+use kinds::{House, block_in, low_in};
+use text::Text;
 
 // The line of file f, none where its size is 0.
-fn file(board: &[u64], out: &mut [u8], p: usize, f: u64) -> usize
-    requires { p + 106 < 2 ^ 64 }
-    ensures { Wrote 106 (file_line house board.now f) p out.old result out.new }
+fn file(board: &[u64], text: &mut Text<'_>, f: u64)
+    requires { text.old.len + 106 < 2 ^ 64 }
+    ensures { Wrote 106 (file_line house board.now f) text.old text.new }
 {
-    let n = boards::size(Kind::House, board, f);
+    let n = boards::size::<House>(board, f);
     if n == 0 {
-        return p;
+        return;
     }
-    let root = boards::root(Kind::House, board, f);
-    let height = low_in(Kind::House, root);
-    let held = trees::held_count(3, board, height, block_in(Kind::House, root), n);
-    text::file_line(out, p, f, n, height, held)
+    let root = boards::root::<House>(board, f);
+    let height = low_in::<House>(root);
+    let held = trees::held_count::<House>(board, height, block_in::<House>(root), n);
+    text.file_line(f, n, height, held)
 }
 
 // The lines of the files.
-fn files(board: &[u64], out: &mut [u8], p: usize) -> usize
-    requires { p + 3392 < 2 ^ 64 }
-    ensures { Wrote 3392 (joined 32 (file_line house board.now)) p out.old result out.new }
+fn files(board: &[u64], text: &mut Text<'_>)
+    requires { text.old.len + 3392 < 2 ^ 64 }
+    ensures { Wrote 3392 (joined 32 (file_line house board.now)) text.old text.new }
 {
-    let mut q = p;
-    let mut f = 0;
-    while f < 32 {
-        q = file(board, out, q, f);
-        f += 1;
+    for f in 0..32 {
+        file(board, text, f);
     }
-    q
 }
 
 // The lines of a board, or of its refusal.
-fn lines(board: &[u64], out: &mut [u8]) -> usize
-    ensures { Wrote 3446 (answer_lines house board.now (check_answer house board.now)) 0 out.old result out.new }
+fn lines(board: &[u64], text: &mut Text<'_>)
+    requires { text.old.len + 3446 < 2 ^ 64 }
+    ensures { Wrote 3446 (answer_lines house board.now (check_answer house board.now)) text.old text.new }
 {
-    match reading::free_count(board) {
-        Answer::Done(free) => {
-            let blocks = boards::block_count(Kind::House, board);
-            let q = text::board_line(out, 0, blocks, free);
-            files(board, out, q)
+    match reading::free_count::<House>(board) {
+        Ok(free) => {
+            let blocks = boards::block_count::<House>(board);
+            text.board_line(blocks, free);
+            files(board, text);
         }
-        Answer::Refused(fault) => {
-            let n = number(fault);
-            text::refused_line(out, 0, n)
+        Err(fault) => {
+            let n = u64::from(fault);
+            text.refused_line(n);
         }
     }
 }
@@ -65,6 +61,8 @@ pub fn list(image: &[u8], out: &mut [u8]) -> usize
     ensures { Listed image.now out.old result out.new }
 {
     let mut words = [0u64; 8192];
-    let n = load(image, &mut words);
-    lines(&words[..n], out)
+    let board = load(image, &mut words);
+    let mut text = Text { out, len: 0 };
+    lines(board, &mut text);
+    text.len
 }

@@ -1,5 +1,6 @@
 -- The board that growth leaves: its inode is what a plan goes by, which is the lent board's but for the root; and a write to a single word is one there if it is
 -- one on the lent board. Growth comes before no such write: all its bytes would lie past the old tree's span.
+use Rattle.std.specs.Prelude.{None}
 use mathlib.Core.Path.{◌≡◌, refl, sym, ◌∙◌}
 use mathlib.Core.Logic.{inl, inr}
 use mathlib.Core.Bool.{Bool, false, ◌&&◌}
@@ -10,7 +11,6 @@ use native.Mathlib.Nat.{le-div_iff_mul-le}
 use lib.ListN.{length}
 use lib.Dec.{leb, eqb}
 use borrow.Author.Tests.{lt-ltb, le-ltb, eqb-true}
-use Rattle.model.specs.declared.WalkEnd.TheVariants.{Hole}
 use Rattle.model.specs.Lists.{concat}
 use Rattle.model.specs.Layout.{Layout}
 use Rattle.model.specs.Tree.{span, least, walk}
@@ -42,7 +42,7 @@ word_past W h o e some word l = omega (arith, span_power W h)
 
 module _ (g : Layout) (b : List ℕ) (f o e : ℕ) where
   -- no single word is written where its first byte is in a hole
-  single_hole : (o / 8 ≡ (e - 1) / 8 → file_walk g b f o ≡ Hole) → single_block g b f o e ≡ Hole
+  single_hole : (o / 8 ≡ (e - 1) / 8 → file_walk g b f o ≡ None) → single_block g b f o e ≡ None
   unfolding single_block
   single_hole hole =
       let within : Bool = leb e (size g b f) in
@@ -50,7 +50,7 @@ module _ (g : Layout) (b : List ℕ) (f o e : ℕ) where
       elim (either (within && word)) [ inl u ↦ rw (u, hole (eqb-true (o / 8) ((e - 1) / 8) (true_right within word u))) | inr u ↦ rw u ]
 
   -- so none that ends past the tree's span
-  pub single_past : o < e → span g.words (root_height g b f) < e → single_block g b f o e ≡ Hole
+  pub single_past : o < e → span g.words (root_height g b f) < e → single_block g b f o e ≡ None
   unfolding file_walk root_walk
   single_past some more =
       let s : ℕ = span g.words (root_height g b f) in
@@ -61,7 +61,7 @@ module _ (g : Layout) (b : List ℕ) (f o e : ℕ) where
 module _ (W : ℕ) (pos : 0 < W) (b : List ℕ) (fresh : ℕ → ℕ) (lim : ℕ) (nonzero : (i : ℕ) → i < lim → 0 < fresh i) where
   -- past the span of the height below, its pointers are null
   top_hole : (h k d n i : ℕ) → 0 < d → length (levels W fresh k d) ≤ lim → held W fresh b (levels W fresh k d) 0 → span W h ≤ i → i < span W (suc h)
-      → walk W b (suc h) (level_top fresh k d) n i ≡ Hole
+      → walk W b (suc h) (level_top fresh k d) n i ≡ None
   unfolding levels level_top level_below walk
   top_hole h k zero n i some room g past l = absurd (omega arith)
   top_hole h zero (suc d) n i some room g past l = walk_null W b (suc h) n i
@@ -74,7 +74,7 @@ module _ (W : ℕ) (pos : 0 < W) (b : List ℕ) (fresh : ℕ → ℕ) (lim : ℕ
 
   -- the same of any height above 0
   top_past : (h k d n i : ℕ) → 0 < d → length (levels W fresh k d) ≤ lim → held W fresh b (levels W fresh k d) 0 → ((x : ℕ) → x < h → span W x ≤ i) → 0 < h → i < span W h
-      → walk W b h (level_top fresh k d) n i ≡ Hole
+      → walk W b h (level_top fresh k d) n i ≡ None
   top_past zero k d n i some room g past high l = absurd (omega arith)
   top_past (suc h) k d n i some room g past high l = top_hole h k d n i some room g (past h (omega arith)) l
 
@@ -97,7 +97,7 @@ module _ {g : Layout} {b : List ℕ} {f e : ℕ} (w : Growing g b f e) {fresh : 
   c = committed b (growth_step g fresh b f h)
 
   -- where all bytes are in one word, the first is in a hole
-  new_hole : o / 8 ≡ (e - 1) / 8 → file_walk g c f o ≡ Hole
+  new_hole : o / 8 ≡ (e - 1) / 8 → file_walk g c f o ≡ None
   unfolding file_walk root_walk greatest growth_to plan
   new_hole word =
       let pos : 0 < W = words_pos g w.on.fit in

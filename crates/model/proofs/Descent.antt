@@ -1,6 +1,7 @@
 -- A write inside the file that replaces one word on the way down a tree: a pointer, which commits fresh blocks, or a word of a data block.
 -- All written bytes lie under one pointer of each block above that word, and nothing else in the tree's blocks is altered. So a change of the
 -- tree under that pointer is a change of the whole tree.
+use Rattle.std.specs.Prelude.{Option, Some, None}
 use mathlib.Core.Path.{◌≡◌, refl, sym, ap, ◌∙◌, subst}
 use mathlib.Core.Logic.{◌≢◌, ◌⊎◌, inl, inr}
 use mathlib.Core.Bool.{false≢true}
@@ -12,8 +13,6 @@ use lib.ListN.{length, get_or}
 use lib.Dec.{T, eqb→eq}
 use borrow.Author.Tests.{le-leb, lt-leb}
 use Rattle.model.specs.Lists.{occ}
-use Rattle.model.specs.declared.WalkEnd.TheVariants.{Block, Hole}
-use Rattle.model.specs.declared.WalkEnd.{WalkEnd}
 use Rattle.model.specs.Words.{byte_of}
 use Rattle.model.specs.Tree.{ending, span, aligned, cell, link, walk, blocks, sound}
 use Rattle.model.specs.Fresh.{splice, part, build}
@@ -224,12 +223,12 @@ module _ (W : ℕ) (fresh : ℕ → ℕ) (b b₂ : List ℕ) (c lim : ℕ) where
 
 module _ (W : ℕ) (pos : 0 < W) (b b₂ : List ℕ) (new : List ℕ) (some : 0 < length new) (small : Small new) {fresh : ℕ → ℕ} {lim top : ℕ} (within : Between fresh lim top) (c : ℕ) where
   -- then the tree is changed. k₂ is its block on b₂: what its own pointer leads to there if that is the word replaced, else the old one
-  abbrev Done : Shadow → ℕ → ℕ → ℕ → ℕ → ℕ → List ℕ → Type 0
-  Done sh h k n o a given = Committed W fresh b b₂ c lim (length new) sh h k n o a → (k₂ : ℕ) → (sh.at ≡ a → k₂ ≡ get_or b₂ a 0 / W) → (sh.at ≢ a → k₂ ≡ k)
+  abbrev Ok : Shadow → ℕ → ℕ → ℕ → ℕ → ℕ → List ℕ → Type 0
+  Ok sh h k n o a given = Committed W fresh b b₂ c lim (length new) sh h k n o a → (k₂ : ℕ) → (sh.at ≡ a → k₂ ≡ get_or b₂ a 0 / W) → (sh.at ≢ a → k₂ ≡ k)
       → Changed W b b₂ top h k k₂ n n o new (λ q. used fresh q c (length sh.pages)) (λ q. occ q given)
 
   -- the descent ends at the tree's own pointer
-  stop : (h k n o a : ℕ) → Done (record { at = a; pages = build W fresh b h k n o new c }) h k n o a (path_blocks W b h k n o (length new))
+  stop : (h k n o a : ℕ) → Ok (record { at = a; pages = build W fresh b h k n o new c }) h k n o a (path_blocks W b h k n o (length new))
   stop h k n o a r k₂ own other =
       let len = length_build W pos b fresh h k n o new c in
       rw (own refl, r.value, len)
@@ -240,7 +239,7 @@ module _ (W : ℕ) (pos : 0 < W) (b b₂ : List ℕ) (new : List ℕ) (some : 0 
   -- it goes on below it
   on : (h k n o a : ℕ) (sh : Shadow) (given : List ℕ) → o % span W h + length new ≤ span W h → let s = span W h in let j = o / s in
       (sh.at ≡ W * suc k + j) ⊎ (0 < occ (sh.at / W) (child_blocks W b h (suc k) n j))
-      → Done sh h (cell W b (suc k) j / W) (n - j * s) (o % s) (W * suc k + j) given → Done sh (suc h) (suc k) n o a given
+      → Ok sh h (cell W b (suc k) j / W) (n - j * s) (o % s) (W * suc k + j) given → Ok sh (suc h) (suc k) n o a given
   unfolding cell
   on h k n o a sh given fits spot ih r k₂ own other =
       let s = span W h in
@@ -276,40 +275,40 @@ module _ (W : ℕ) (pos : 0 < W) (b b₂ : List ℕ) (new : List ℕ) (some : 0 
       let s = span W h in
       let j = o / s in
       elim (split (o % s + length new) s) [
-        | inl fits ↦ rw (inside_on W b h k n o (length new) fits) (subst (λ (sh : Shadow). Done sh (suc h) (suc k) n o a (inside_blocks W b h (cell W b (suc k) j / W) (n - j * s) (o % s) (length new))) (sym (descend_on W fresh b new c h k n o a fits))
+        | inl fits ↦ rw (inside_on W b h k n o (length new) fits) (subst (λ (sh : Shadow). Ok sh (suc h) (suc k) n o a (inside_blocks W b h (cell W b (suc k) j / W) (n - j * s) (o % s) (length new))) (sym (descend_on W fresh b new c h k n o a fits))
             (λ r.
             let place = child W pos h o r.under in
             on h k n o a (descend W fresh b h (cell W b (suc k) j / W) (n - j * s) (o % s) new c (W * suc k + j)) (inside_blocks W b h (cell W b (suc k) j / W) (n - j * s) (o % s) (length new)) fits
             (descend_inside W pos fresh b new c h (cell W b (suc k) j / W) (n - j * s) (o % s) (W * suc k + j) (omega (arith, r.within, place.there)) place.inside)
             (descend_changed h (cell W b (suc k) j / W) (n - j * s) (o % s) (W * suc k + j)) r))
-        | inr more ↦ rw (inside_stop W b h k n o (length new) more) (subst (λ (sh : Shadow). Done sh (suc h) (suc k) n o a (path_blocks W b (suc h) (suc k) n o (length new))) (sym (descend_stop W fresh b new c h k n o a more)) (stop (suc h) (suc k) n o a))
+        | inr more ↦ rw (inside_stop W b h k n o (length new) more) (subst (λ (sh : Shadow). Ok sh (suc h) (suc k) n o a (path_blocks W b (suc h) (suc k) n o (length new))) (sym (descend_stop W fresh b new c h k n o a more)) (stop (suc h) (suc k) n o a))
       ]
 
 -- ---- single word: the word is one of a data block
 
-pub hole≢block : (K : ℕ) → Hole ≢ Block K
+pub hole≢block : (K : ℕ) → None ≢ Some K
 unfolding at_block
 hole≢block K e = false≢true (ap at_block e)
 
-pub ending_is : (k n K : ℕ) → ending k n ≡ Block K → (0 < n) × (K ≡ k)
+pub ending_is : (k n K : ℕ) → ending k n ≡ Some K → (0 < n) × (K ≡ k)
 unfolding ending
 ending_is zero n K e = absurd (hole≢block K e)
 ending_is (suc k) zero K e = absurd (hole≢block K e)
 ending_is (suc k) (suc n) K e = (omega arith, ap number (sym e))
   where
-    number : WalkEnd → ℕ
-    number Hole = 0
-    number (Block x) = x
+    number : Option ℕ → ℕ
+    number None = 0
+    number (Some x) = x
 
 module _ (W : ℕ) (b : List ℕ) where
   -- a walk that ends at a block went along live pointers
-  pub walk_live_law : (h k n o K : ℕ) → walk W b h k n o ≡ Block K → 0 < n
+  pub walk_live_law : (h k n o K : ℕ) → walk W b h k n o ≡ Some K → 0 < n
   unfolding walk
   walk_live_law zero k n o K e = (ending_is k n K e).0
   walk_live_law (suc h) k n o K e = omega (arith, walk_live_law h (link W b k (o / span W h) / W) (n - o / span W h * span W h) (o % span W h) K e)
 
   -- and that block is live
-  pub walk_inside : 0 < W → (h k n o K : ℕ) → o < span W h → walk W b h k n o ≡ Block K → 0 < occ K (blocks W b h k n)
+  pub walk_inside : 0 < W → (h k n o K : ℕ) → o < span W h → walk W b h k n o ≡ Some K → 0 < occ K (blocks W b h k n)
   unfolding walk ending blocks occ link
   walk_inside pos zero zero n o K u e = absurd (hole≢block K e)
   walk_inside pos zero (suc k) zero o K u e = absurd (hole≢block K e)
@@ -370,7 +369,7 @@ module _ (new : List ℕ) (small : Small new) where
     }
 
     -- so does the tree that the walk goes through
-    walk_changed : (h k n o K : ℕ) → o < span W h → o % 8 ≡ p → W * K + o % span W 0 / 8 ≡ A → walk W b h k n o ≡ Block K → Replaced W b b₂ A h k n
+    walk_changed : (h k n o K : ℕ) → o < span W h → o % 8 ≡ p → W * K + o % span W 0 / 8 ≡ A → walk W b h k n o ≡ Some K → Replaced W b b₂ A h k n
         → Changed W b b₂ top h k k n n o new (λ q. 0) (λ q. 0)
     unfolding walk ending link
     walk_changed zero zero n o K u e at to r = absurd (hole≢block K to)
@@ -393,7 +392,7 @@ module _ (new : List ℕ) (small : Small new) where
 
 module _ (W : ℕ) (pos : 0 < W) (b b₂ : List ℕ) (new : List ℕ) (small : Small new) (top : ℕ) where
   -- `new` lies in one word, of the data block K: only that word is stored
-  pub word_changed : (h k n o K : ℕ) → walk W b h k n o ≡ Block K → o < span W h → o / 8 ≡ (o + length new - 1) / 8
+  pub word_changed : (h k n o K : ℕ) → walk W b h k n o ≡ Some K → o < span W h → o / 8 ≡ (o + length new - 1) / 8
       → let A = W * K + o % span W 0 / 8 in Replaced W b b₂ A h k n → get_or b₂ A 0 ≡ spliced_word (o % 8) new (get_or b A 0)
       → Changed W b b₂ top h k k n n o new (λ q. 0) (λ q. 0)
   word_changed h k n o K to under one_word r value =

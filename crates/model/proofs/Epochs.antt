@@ -1,5 +1,6 @@
 -- Pairs and epochs: a plan is the pairs of its epochs, and a call that plans lays them into the lent slice or is refused. Every rule about plans
 -- and cuts begins with these.
+use Rattle.std.specs.Prelude.{Ok, Err}
 use mathlib.Core.Path.{◌≡◌, refl, ap, ◌∙◌, subst}
 use mathlib.Core.Logic.{◌≢◌, ◌⊎◌, inl, inr}
 use mathlib.Core.Bool.{Bool, false, ◌&&◌, and-false}
@@ -11,7 +12,6 @@ use lib.ListN.{length, get_or, take, drop, get_or-eq_default, length-append}
 use lib.Seq.{sets, sets-eq, take-append_seam, take-nil, get_or-append-add}
 use lib.Dec.{T, ltb, eqb}
 use borrow.Author.Tests.{ltb-false, ne_eqb}
-use Rattle.model.specs.declared.Answer.TheVariants.{Done, Refused}
 use Rattle.model.specs.declared.Fault.TheVariants.{PlanLength}
 use Rattle.model.specs.declared.Fault.{Fault}
 use Rattle.model.specs.Lists.{cons_if, filter, distinct, concat, all}
@@ -179,13 +179,13 @@ paired_laid slice ss l =
 abbrev pub Passed : Fault × Bool → Type 0
 Passed t = t.1 ≡ false
 
-pub answered_passed : (fs : Faults) (n : ℕ) → All Passed fs → answered fs n ≡ Done n
+pub answered_passed : (fs : Faults) (n : ℕ) → All Passed fs → answered fs n ≡ Ok n
 unfolding All answered
 answered_passed [] n h = refl
 answered_passed (t ∷ ts) n h = rw h.0 (answered_passed ts n h.1)
 
 -- no test finds a fault, or the answer is a refusal
-pub found : (fs : Faults) (n : ℕ) → All Passed fs ⊎ ((f : Fault) × (answered fs n ≡ Refused f))
+pub found : (fs : Faults) (n : ℕ) → All Passed fs ⊎ ((f : Fault) × (answered fs n ≡ Err f))
 unfolding All answered
 found [] n = inl tt
 found (t ∷ ts) n = elim (either t.1) [
@@ -196,13 +196,13 @@ found (t ∷ ts) n = elim (either t.1) [
 -- the call is done: no fault was found, and the plan is in the slice
 pub record Planning (faults : Faults) (ss : List Store) (p : Planned) : Type 0 where
   pub passed : All Passed faults
-  pub answers : p.answer ≡ Done (length ss)
+  pub answers : p.answer ≡ Ok (length ss)
   pub plans : plan_of p ≡ ss
 
 -- it is refused, and there is no plan
 pub record Refusing (p : Planned) : Type 0 where
   pub fault : Fault
-  pub answers : p.answer ≡ Refused fault
+  pub answers : p.answer ≡ Err fault
   pub plans : plan_of p ≡ []
 
 pub planned_either : (faults : Faults) (ss : List Store) (slice : List ℕ) → let p : Planned = planned faults ss slice in Planning faults ss p ⊎ Refusing p

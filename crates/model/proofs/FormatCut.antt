@@ -1,5 +1,6 @@
 -- Format's plan is shaped as plans must be and stores nothing to block 0; a cut inside it leaves the lent board, a board whose trailer word 0 is 0,
 -- or empty files.
+use Rattle.std.specs.Prelude.{Err}
 use mathlib.Core.Path.{◌≡◌, refl, sym, ◌∙◌}
 use mathlib.Core.Logic.{◌≢◌, ◌⊎◌, inl, inr}
 use mathlib.Core.Bool.{Bool, true, false}
@@ -10,7 +11,6 @@ use native.Mathlib.Nat.{mul-le-mul_left, zero-mod}
 use lib.ListN.{length, get_or, set, take, length-set}
 use lib.Seq.{get_or-set_same}
 use lib.Dec.{T, leb, le→leb}
-use Rattle.model.specs.declared.Answer.TheVariants.{Refused}
 use Rattle.model.specs.declared.Fault.TheVariants.{Trailer}
 use Rattle.model.specs.Lists.{all, member, distinct, concat, cons_if, filter, occ}
 use Rattle.model.specs.Layout.{Layout, Fits}
@@ -117,13 +117,13 @@ module _ (g : Layout) (fit : Fits g) (b : List ℕ) (ok : T (word_count_sound g 
     unfolding word_count_sound
     count_sound = rw e (is_true (word_count_sound g b) ok)
 
-    zero_refused : (trailer g b' 0 ≡ 0) × (check_answer g b' ≡ Refused Trailer)
+    zero_refused : (trailer g b' 0 ≡ 0) × (check_answer g b' ≡ Err Trailer)
     unfolding check_answer board_faults word_count_fault answered
     zero_refused = (root_zero, rw (count_sound, trailer_unsound))
 
   -- what a cut may leave
   abbrev Outcome : List ℕ → Type 0
-  Outcome b' = (b' ≡ b) ⊎ (((trailer g b' 0 ≡ 0) × (check_answer g b' ≡ Refused Trailer)) ⊎ Empty g b')
+  Outcome b' = (b' ≡ b) ⊎ (((trailer g b' 0 ≡ 0) × (check_answer g b' ≡ Err Trailer)) ⊎ Empty g b')
 
   start : List ℕ
   start = set b (trailer_address g b 0) 0

@@ -11,8 +11,8 @@ use lib.Seq.{get_or-set_same, get_or-set_other}
 use lib.Dec.{T, eqb, eqb_refl, lit≤, lit<}
 use borrow.Author.Tests.{le-leb, lt-ltb, le-ltb}
 use Rattle.model.specs.Lists.{tabulate, every, concat, occ}
-use Rattle.model.specs.declared.Kind.{Kind}
-use Rattle.model.specs.declared.Kind.TheVariants.{House, Published}
+use Rattle.model.specs.Layout.{Kind}
+use Rattle.model.specs.Layout.{House, Published}
 use Rattle.model.specs.Layout.{Layout, Fits, house, published, layout_of, files}
 use Rattle.model.specs.Tree.{cell}
 use Rattle.model.specs.Board.{root_blocks, root_sound, trailer_word, greatest, block_count, trailer, inode_block, inode_pointer, leaf, root_address, size_address, root_height, root_block, size, contents, file_blocks, live_blocks, in_range, word_count_sound, trailer_sound, leaf_sound, spare_sound, file_sound}

@@ -1,4 +1,5 @@
 -- The ways of planning that change a file in one word of its tree: single word, and shadow inside the file.
+use Rattle.std.specs.Prelude.{Some}
 use mathlib.Core.Path.{◌≡◌, refl, sym, ap, ◌∙◌}
 use mathlib.Core.Logic.{◌≢◌, ◌⊎◌, inl, inr}
 use mathlib.Core.List.{List, []}
@@ -9,7 +10,6 @@ use lib.ListN.{length, get_or, set, length-set}
 use lib.Seq.{get_or-set_same, get_or-set_other}
 use borrow.Author.Tests.{lt-ltb}
 use Rattle.model.specs.Lists.{occ}
-use Rattle.model.specs.declared.WalkEnd.TheVariants.{Block}
 use Rattle.model.specs.Layout.{Layout}
 use Rattle.model.specs.Tree.{span, cell, walk}
 use Rattle.model.specs.Board.{root_walk, root_blocks, block_count, root_address, size_address, root_height, root_block, root, size, file_walk, file_blocks, live_blocks}
@@ -50,7 +50,7 @@ module _ {g : Layout} {b : List ℕ} {f o : ℕ} {new : List ℕ} (w : Writing g
 
   -- ---- Single word
 
-  module _ (K : ℕ) (there : file_walk g b f o ≡ Block K) (word : o / 8 ≡ (o + length new - 1) / 8) where
+  module _ (K : ℕ) (there : file_walk g b f o ≡ Some K) (word : o / 8 ≡ (o + length new - 1) / 8) where
     abbrev a : ℕ
     a = g.words * K + o % span g.words 0 / 8
 
@@ -60,7 +60,7 @@ module _ {g : Layout} {b : List ℕ} {f o : ℕ} {new : List ℕ} (w : Writing g
     abbrev b₂ : List ℕ
     b₂ = set b a v
 
-    walked : walk g.words b (root_height g b f) (root_block g b f) (size g b f) o ≡ Block K
+    walked : walk g.words b (root_height g b f) (root_block g b f) (size g b f) o ≡ Some K
     unfolding file_walk root_walk
     walked = rw (lt-ltb o (span g.words (root_height g b f)) (omega arith)) at there
 

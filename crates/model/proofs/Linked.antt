@@ -1,5 +1,6 @@
 -- The walk to a byte as a call goes by links, in which null reads as zeros. On an accepted board none of them is null, so it is the walk by which a file
 -- is read, and stays where that stays.
+use Rattle.std.specs.Prelude.{None}
 use mathlib.Core.Path.{◌≡◌, sym, ap, subst, ◌∙◌}
 use mathlib.Core.Bool.{cond}
 use mathlib.Core.List.{List}
@@ -9,7 +10,6 @@ use native.Mathlib.Nat.{add-zero, add_assoc}
 use lib.ListN.{get_or}
 use lib.Dec.{T}
 use borrow.Author.Tests.{lt-ltb}
-use Rattle.model.specs.declared.WalkEnd.TheVariants.{Hole}
 use Rattle.model.specs.Layout.{Layout, Fits, files}
 use Rattle.model.specs.Tree.{cell, link}
 use Rattle.model.specs.Board.{root_walk, block_count, trailer, inode_block, inode_pointer, leaf, root_address, size_address, root, size, file_walk, linked_leaf, linked_word, walk_to, accepted}
@@ -51,7 +51,7 @@ module _ {g : Layout} {b : List ℕ} {f : ℕ} (on : FileOn g b f) where
   -- it is the walk by which the file is read
   pub walk_to_file : (i : ℕ) → walk_to g b f i ≡ file_walk g b f i
   unfolding walk_to file_walk
-  walk_to_file i = λ t. cond (lt-ltb f (files g) on.file t) (root_walk W b (linked_root t) (linked_size t) i) Hole
+  walk_to_file i = λ t. cond (lt-ltb f (files g) on.file t) (root_walk W b (linked_root t) (linked_size t) i) None
 
 -- so boards on which all that is visible is the same show the same
 pub same_shows : (g : Layout) (fit : Fits g) (b b' : List ℕ) → T (accepted g b) → Same g b b' → Shows g b b'

@@ -1,4 +1,5 @@
 -- Writing past the end: whichever way such a write goes, and with growth before it, the path to the last byte before it is fresh and holes are null.
+use Rattle.std.specs.Prelude.{None}
 use mathlib.Core.Path.{◌≡◌, refl, ap, ◌∙◌}
 use mathlib.Core.Logic.{inl, inr}
 use mathlib.Core.Bool.{false}
@@ -8,7 +9,6 @@ use native.Mathlib.Omega.{arith}
 use lib.ListN.{length, get_or, take, drop}
 use lib.Dec.{T, eqb}
 use borrow.Author.Tests.{lt-ltb, le-ltb, lt-leb, eq-eqb, ne_eqb}
-use Rattle.model.specs.declared.WalkEnd.TheVariants.{Hole}
 use Rattle.model.specs.Lists.{member}
 use Rattle.model.specs.Layout.{Layout}
 use Rattle.model.specs.Tree.{live, span, least}
@@ -46,7 +46,7 @@ module _ (g : Layout) (fresh : ℕ → ℕ) (b : List ℕ) (f o : ℕ) (new : Li
   way = chosen_way g fresh b (inode_of g b f) o new c
 
   -- no single word
-  none_single : 0 < length new → single_block g b f o (o + length new) ≡ Hole
+  none_single : 0 < length new → single_block g b f o (o + length new) ≡ None
   unfolding single_block
   none_single some = rw (lt-leb (o + length new) (size g b f) (omega arith))
 
@@ -63,7 +63,7 @@ module _ (g : Layout) (fresh : ℕ → ℕ) (b : List ℕ) (f o : ℕ) (new : Li
 -- ---- What it leaves
 
 -- *a byte past the span is in a hole*
-beyond_hole : (g : Layout) (b : List ℕ) (f i : ℕ) → span g.words (root_height g b f) ≤ i → file_walk g b f i ≡ Hole
+beyond_hole : (g : Layout) (b : List ℕ) (f i : ℕ) → span g.words (root_height g b f) ≤ i → file_walk g b f i ≡ None
 unfolding file_walk root_walk
 beyond_hole g b f i l = rw (le-ltb i (span g.words (root_height g b f)) l)
 
@@ -79,7 +79,7 @@ module _ {g : Layout} {b : List ℕ} {f o : ℕ} {new : List ℕ} (w : Writing g
   abbrev Past : Plan → Type 0
   Past p = p.taken ≤ lim → ((i : ℕ) → c ≤ i → i < p.taken → T (member (fresh i) taken)) → PastEnd g b (all_committed b p.steps) f o (length new) taken
 
-  empty_hole : size g b f ≡ 0 → (i : ℕ) → file_walk g b f i ≡ Hole
+  empty_hole : size g b f ≡ 0 → (i : ℕ) → file_walk g b f i ≡ None
   unfolding file_walk root_walk
   empty_hole z i = elim (split (span W (root_height g b f)) i) [
     | inl beyond ↦ beyond_hole g b f i beyond

@@ -1,4 +1,5 @@
 -- Every plan of a length change and of a write is made of good steps.
+use Rattle.std.specs.Prelude.{Option, Some, None}
 use mathlib.Core.Path.{◌≡◌, refl, sym, ap, ◌∙◌}
 use mathlib.Core.Logic.{◌↔◌, inl, inr}
 use mathlib.Core.Bool.{false}
@@ -9,8 +10,6 @@ use native.Mathlib.Nat.{zero-add, sub-zero, mul-zero, mul-pos}
 use lib.ListN.{length, take, replicate}
 use lib.Seq.{take_all}
 use borrow.Author.Tests.{lt-ltb, le-ltb, eq-eqb, ne_eqb}
-use Rattle.model.specs.declared.WalkEnd.{WalkEnd}
-use Rattle.model.specs.declared.WalkEnd.TheVariants.{Block, Hole}
 use Rattle.model.specs.Lists.{concat, sum, occ}
 use Rattle.model.specs.Layout.{Layout, Fits}
 use Rattle.model.specs.Tree.{span, least}
@@ -198,13 +197,13 @@ module _ {g : Layout} {b : List ℕ} {f o : ℕ} {new : List ℕ} (w : Writing g
   Wanted p given = p.taken ≤ lim → GoodPlan g b f fresh wanted given p
 
   -- a single word, before which there is no growth
-  single_reach : (K : ℕ) → single_block g b f o e ≡ Block K → Spanned g b f e
+  single_reach : (K : ℕ) → single_block g b f o e ≡ Some K → Spanned g b f e
   single_reach K is l = elim (split e (span g.words (root_height g b f))) [
     | inl u ↦ u
     | inr m ↦ absurd (hole≢block K (sym (single_past g b f o e (omega arith) m) ∙ is))
   ]
 
-  single_plan : (K : ℕ) → single_block g b f o e ≡ Block K → Wanted (single_word g b K o new) []
+  single_plan : (K : ℕ) → single_block g b f o e ≡ Some K → Wanted (single_word g b K o new) []
   single_plan K is room = one_plan fit (single_way w some (single_reach K is) supply refl K is room)
 
   -- no growth
@@ -212,11 +211,11 @@ module _ {g : Layout} {b : List ℕ} {f o : ℕ} {new : List ℕ} (w : Writing g
   unfolding grown_plan growth grown_inode plan afterwards plan_epochs concat performed
   still_plan still = rw still
 
-  still_gives : growing g (inode_of g b f) e ≡ false → some_gives g fresh b f Hole o new ≡ gives b
+  still_gives : growing g (inode_of g b f) e ≡ false → some_gives g fresh b f None o new ≡ gives b
   unfolding some_gives growth grown_inode plan plan_epochs concat performed
   still_gives still = rw still
 
-  no_growth : growing g (inode_of g b f) e ≡ false → Spanned g b f e → Wanted (grown_plan g fresh b (inode_of g b f) o new) (some_gives g fresh b f Hole o new)
+  no_growth : growing g (inode_of g b f) e ≡ false → Spanned g b f e → Wanted (grown_plan g fresh b (inode_of g b f) o new) (some_gives g fresh b f None o new)
   no_growth still reach = rw (still_plan still, still_gives still) (λ room. one_plan fit (way_good w some reach supply room))
 
   -- growth
@@ -246,7 +245,7 @@ module _ {g : Layout} {b : List ℕ} {f o : ℕ} {new : List ℕ} (w : Writing g
       unfolding grown_plan
       grown_plan_law = rw (growth_is, growth_performed g fresh b f h, inode_is)
 
-      grown_gives : some_gives g fresh b f Hole o new ≡ gives c
+      grown_gives : some_gives g fresh b f None o new ≡ gives c
       unfolding some_gives
       grown_gives = rw (growth_is, growth_performed g fresh b f h, inode_is)
 
@@ -262,15 +261,15 @@ module _ {g : Layout} {b : List ℕ} {f o : ℕ} {new : List ℕ} (w : Writing g
           (rw (← first.outcome.reads) (way_good grown_writing some (λ l. growth_reaches grow supply enough) (growth_supply grow supply enough) room))
           (taken_from g fresh c (inode_of g c f) o new p.taken)
 
-    grows : Wanted (grown_plan g fresh b (inode_of g b f) o new) (some_gives g fresh b f Hole o new)
+    grows : Wanted (grown_plan g fresh b (inode_of g b f) o new) (some_gives g fresh b f None o new)
     grows room =
         let enough : p.taken ≤ lim = omega (arith, room, growth_first g fresh b f o new, ap (λ (x : Plan). x.taken) growth_is) in
         rw (grown_plan_law enough, grown_gives enough) (after_growth enough (rw (grown_plan_law enough) at room))
 
-  pub write_some_law : (end : WalkEnd) → single_block g b f o e ≡ end → Wanted (some_plan g fresh b f end o new) (some_gives g fresh b f end o new)
+  pub write_some_law : (end : Option ℕ) → single_block g b f o e ≡ end → Wanted (some_plan g fresh b f end o new) (some_gives g fresh b f end o new)
   unfolding some_plan some_gives
-  write_some_law (Block K) is = single_plan K is
-  write_some_law Hole is = elim (growing_cases w) [ inl still ↦ no_growth still.0 still.1 | inr grow ↦ grows grow ]
+  write_some_law (Some K) is = single_plan K is
+  write_some_law None is = elim (growing_cases w) [ inl still ↦ no_growth still.0 still.1 | inr grow ↦ grows grow ]
 
 pub write_good : {g : Layout} {b : List ℕ} {f o : ℕ} {new : List ℕ} → Writing g b f o new → {fresh : ℕ → ℕ} {lim : ℕ} → Supply g b fresh 0 lim → (write_plan g fresh b f o new).taken ≤ lim
     → GoodPlan g b f fresh (overwritten o new (contents g b f)) (write_gives g fresh b f o new) (write_plan g fresh b f o new)

@@ -1,5 +1,6 @@
 -- What is promised of every write and length change, in any order of taking blocks, from the fact that its plan is made of good steps: the power-cut
 -- rule, accuracy, the shape of plans, the blocks taken and given up.
+use Rattle.std.specs.Prelude.{Ok, Err}
 use mathlib.Core.Path.{◌≡◌, refl, ap, ◌∙◌}
 use mathlib.Core.Logic.{◌≢◌, ◌⊎◌, inl, inr, ◌↔◌}
 use mathlib.Core.Bool.{Bool}
@@ -9,8 +10,6 @@ use native.Mathlib.Omega.{arith}
 use lib.ListN.{length, take}
 use lib.Dec.{T, leb, ltb}
 use borrow.Author.Tests.{leb-false, ltb-false, ne_eqb}
-use Rattle.model.specs.declared.Answer.TheVariants.{Done, Refused}
-use Rattle.model.specs.declared.Answer.{Answer}
 use Rattle.model.specs.declared.Fault.TheVariants.{FileNumber, End, FreeBlocks}
 use Rattle.model.specs.declared.Fault.{Fault}
 use Rattle.model.specs.Lists.{tabulate, all, filter, concat, member, distinct, occ}
@@ -21,7 +20,7 @@ use Rattle.model.specs.Store.{Store, performed, stores, epochs, fenced}
 use Rattle.model.specs.Hidden.{hidden}
 use Rattle.model.specs.Plan.{Step, step_epochs, plan_epochs, Plan, pairs}
 use Rattle.model.specs.Change.{write_plan}
-use Rattle.model.specs.Answers.{Faults, unless_refused}
+use Rattle.model.specs.Answers.{Faults, unless_refused, Answer}
 use Rattle.model.specs.Calls.{board_faults, file_faults, check_answer, Planned, planned, lowest, write_faults, write_from, set_length}
 use Rattle.model.specs.Cut.{Change, writing, length_to, file_of, called_from, called, plan_from, plan_for, given_up, plan_of, altered, after, Cut, Names, standing, last_arrived}
 use Rattle.model.specs.Claims.{Shaped, CutSafe, Altered, PlanRule, FreshRule, PowerCutRule, AccuracyRule}
@@ -220,7 +219,7 @@ module _ (g : Layout) (fit : Fits g) (b : List ℕ) (t : T (accepted g b)) (f : 
 pub record Doing (g : Layout) (fresh : ℕ → ℕ) (b : List ℕ) (c : Change) (p : Planned) : Type 0 where
   pub file_in : file_of c < files g
   pub good : GoodPlan g b (file_of c) fresh (altered c (contents g b (file_of c))) (given_up g fresh b c) (plan_from g fresh b c)
-  pub answers : p.answer ≡ Done (length (pairs (plan_from g fresh b c)))
+  pub answers : p.answer ≡ Ok (length (pairs (plan_from g fresh b c)))
   pub plans : plan_of p ≡ pairs (plan_from g fresh b c)
 
 -- so it is, or refused, where its plan is good once no fault was found
@@ -258,11 +257,11 @@ write_passed {g} fit {b} t f o new p h =
       ltb-false (length (free g b)) p.taken rest.1.0,
     )
 
-after_done : (c : Change) (before : List ℕ) {a : Answer} {n : ℕ} → a ≡ Done n → after c a before ≡ altered c before
+after_done : (c : Change) (before : List ℕ) {a : Answer} {n : ℕ} → a ≡ Ok n → after c a before ≡ altered c before
 unfolding after unless_refused
 after_done c before e = rw e
 
-after_refused : (c : Change) (before : List ℕ) {a : Answer} {f : Fault} → a ≡ Refused f → after c a before ≡ before
+after_refused : (c : Change) (before : List ℕ) {a : Answer} {f : Fault} → a ≡ Err f → after c a before ≡ before
 unfolding after unless_refused
 after_refused c before e = rw e
 

@@ -1,4 +1,5 @@
 -- Whole boards: what is visible of all files. Boards on which that is the same show the same.
+use Rattle.std.specs.Prelude.{None}
 use mathlib.Core.Path.{◌≡◌, refl, sym, ap, ap₂, ◌∙◌}
 use mathlib.Core.Logic.{inl, inr}
 use mathlib.Core.Bool.{Bool, ◌&&◌}
@@ -10,7 +11,6 @@ use lib.ListN.{length}
 use lib.Arith.{digits_mod, mod-mul}
 use lib.Dec.{leb, eqb}
 use borrow.Author.Tests.{lt-ltb, le-ltb}
-use Rattle.model.specs.declared.WalkEnd.TheVariants.{Hole}
 use Rattle.model.specs.Lists.{tabulate, joined, every, sum, distinct, one, occ}
 use Rattle.model.specs.Words.{byte_of}
 use Rattle.model.specs.Layout.{Layout, Fits, files}
@@ -97,7 +97,7 @@ module _ (W : ℕ) (pos : 0 < W) (b b' : List ℕ) (r r' n : ℕ) (e : 0 < n →
   unfolding root_byte
   root_byte_law i l = rw (← (e (omega arith))) (agree_span_byte W pos b b' (r % W) (r / W) n i a)
 
-  dead_walk : (c : List ℕ) (x i : ℕ) → n ≡ 0 → root_walk W c x n i ≡ Hole
+  dead_walk : (c : List ℕ) (x i : ℕ) → n ≡ 0 → root_walk W c x n i ≡ None
   unfolding root_walk
   dead_walk c x i z = elim (split (span W (x % W)) i) [
     | inl past ↦ rw (le-ltb i (span W (x % W)) past)

@@ -1,5 +1,6 @@
 -- A tree when bytes are written in place at its end (specs/InPlace.antt). One law serves a tail, which hooks fresh trees, and a length change, which
 -- writes zeros and hooks holes.
+use Rattle.std.specs.Prelude.{None}
 use mathlib.Core.Path.{◌≡◌, refl, sym, ap, ◌∙◌, subst}
 use mathlib.Core.Logic.{◌≢◌, ◌⊎◌, inl, inr}
 use mathlib.Core.List.{List, [], ◌∷◌}
@@ -9,7 +10,6 @@ use native.Mathlib.Nat.{zero-div, zero-mod, mul-div_cancel_left, mul-mod_right}
 use lib.ListN.{length, get_or, replicate, length-replicate, get_or-replicate, get_or-eq_default}
 use lib.Arith.{digits_div, digits_mod}
 use lib.Dec.{T}
-use Rattle.model.specs.declared.WalkEnd.TheVariants.{Hole}
 use Rattle.model.specs.Lists.{sum, choose, occ}
 use Rattle.model.specs.Tree.{ending, span, aligned, cell, link}
 use Rattle.model.specs.Store.{store}
@@ -89,10 +89,10 @@ unfolding part_length
 part_room s j o l p = omega arith
 
 module _ (W : ℕ) (b : List ℕ) where
-  walk_live_null : (h n : ℕ) → walk_live W b h 0 n ≡ Hole
+  walk_live_null : (h n : ℕ) → walk_live W b h 0 n ≡ None
   unfolding walk_live ending link
   walk_live_null zero n = refl
-  walk_live_null (suc h) n = rw (zero-div W, walk_live_null h (n % span W h)) (choose_same (n % span W h) Hole)
+  walk_live_null (suc h) n = rw (zero-div W, walk_live_null h (n % span W h)) (choose_same (n % span W h) None)
 
   walk_live_child : (h k n j : ℕ) → 0 < n - j * span W h → n - j * span W h < span W h
       → walk_live W b (suc h) k n ≡ walk_live W b h (link W b k j / W) (n - j * span W h)

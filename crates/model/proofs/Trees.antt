@@ -1,5 +1,6 @@
 -- A tree (h, k, n) one level at a time: under a pointer that isn't live and under a null one there is nothing; at a live block, the block and what
 -- lies beneath it. Code that tests n, k and h in turn is proved from these laws.
+use Rattle.std.specs.Prelude.{Some, None}
 use mathlib.Core.Path.{◌≡◌, refl, sym}
 use mathlib.Core.Logic.{◌≢◌}
 use mathlib.Core.Bool.{Bool, true, false, ◌&&◌, and-true}
@@ -9,7 +10,6 @@ use native.Mathlib.Omega.{arith}
 use native.Mathlib.Nat.{zero-sub, zero-div}
 use native.Mathlib.Numerals.{sub-one}
 use lib.Dec.{ltb}
-use Rattle.model.specs.declared.WalkEnd.TheVariants.{Block, Hole}
 use Rattle.model.specs.Lists.{every, joined}
 use Rattle.model.specs.Tree.{live, ending, span, aligned, cell, link, walk, blocks, sound}
 
@@ -52,7 +52,7 @@ module _ (W : ℕ) (b : List ℕ) (k n : ℕ) where
 
 module _ (W : ℕ) (b : List ℕ) where
   -- not live
-  pub walk_dead : (h k i : ℕ) → walk W b h k 0 i ≡ Hole
+  pub walk_dead : (h k i : ℕ) → walk W b h k 0 i ≡ None
   unfolding walk ending
   walk_dead zero zero i = refl
   walk_dead zero (suc k) i = refl
@@ -73,7 +73,7 @@ module _ (W : ℕ) (b : List ℕ) where
   sound_dead top (suc h) (suc k) = refl
 
   -- null
-  pub walk_null : (h n i : ℕ) → walk W b h 0 n i ≡ Hole
+  pub walk_null : (h n i : ℕ) → walk W b h 0 n i ≡ None
   unfolding walk ending link
   walk_null zero n i = refl
   walk_null (suc h) n i = rw (zero-div W) (walk_null h (n - i / span W h * span W h) (i % span W h))
@@ -89,7 +89,7 @@ module _ (W : ℕ) (b : List ℕ) where
   sound_null top (suc h) n = refl
 
   -- a live block
-  pub walk_here : (k n i : ℕ) → n ≢ 0 → k ≢ 0 → walk W b 0 k n i ≡ Block k
+  pub walk_here : (k n i : ℕ) → n ≢ 0 → k ≢ 0 → walk W b 0 k n i ≡ Some k
   unfolding walk ending
   walk_here zero n i live there = absurd (there refl)
   walk_here (suc k) zero i live there = absurd (live refl)

@@ -1,4 +1,5 @@
 -- The ways of planning a write, 3 to 6 of document 01, at any offset: whichever is chosen, its one step is good.
+use Rattle.std.specs.Prelude.{Some}
 use mathlib.Core.Path.{◌≡◌, refl, sym, ap, ◌∙◌}
 use mathlib.Core.Logic.{inl, inr}
 use mathlib.Core.Bool.{Bool, true, false, not, cond, ◌&&◌, ◌||◌, false≢true}
@@ -8,7 +9,6 @@ use native.Mathlib.Omega.{arith}
 use lib.ListN.{length, take, replicate}
 use lib.Dec.{T, leb, eqb}
 use borrow.Author.Tests.{le-leb, lt-leb, eq-eqb, ne_eqb, eqb-true}
-use Rattle.model.specs.declared.WalkEnd.TheVariants.{Block}
 use Rattle.model.specs.declared.Inode.{Inode}
 use Rattle.model.specs.Lists.{tabulate, sum, occ}
 use Rattle.model.specs.Layout.{Layout, Fits}
@@ -113,7 +113,7 @@ module _ {g : Layout} {b : List ℕ} {f o : ℕ} {new : List ℕ} (w : Writing g
   inode_live_at a e = rw e (leaf_live g b (f / g.inodes) (leaf_of g fit f file))
 
   -- 3: *e ≤ s, all bytes fall in one word and its data block exists*
-  single_parts : (K : ℕ) → single_block g b f o (o + length new) ≡ Block K → (o + length new ≤ size g b f) × (o / 8 ≡ (o + length new - 1) / 8) × (file_walk g b f o ≡ Block K)
+  single_parts : (K : ℕ) → single_block g b f o (o + length new) ≡ Some K → (o + length new ≤ size g b f) × (o / 8 ≡ (o + length new - 1) / 8) × (file_walk g b f o ≡ Some K)
   unfolding single_block
   single_parts K e = elim (split (o + length new) (size g b f)) [
     | inl l ↦ elim (decide (o / 8) ((o + length new - 1) / 8)) [
@@ -123,7 +123,7 @@ module _ {g : Layout} {b : List ℕ} {f o : ℕ} {new : List ℕ} (w : Writing g
     | inr m ↦ absurd (hole≢block K (rw (lt-leb (o + length new) (size g b f) m) at e))
   ]
 
-  pub single_way : c ≡ 0 → (K : ℕ) → single_block g b f o (o + length new) ≡ Block K → Good (single_word g b K o new) []
+  pub single_way : c ≡ 0 → (K : ℕ) → single_block g b f o (o + length new) ≡ Some K → Good (single_word g b K o new) []
   unfolding single_word plan step store stored All occ used sum
   single_way first K e room =
       let p = single_parts K e in

@@ -1,8 +1,6 @@
 -- The board: a list of words, with the layout g. Document 01, 'The board'.
-use Rattle.std.specs.Prelude.{Bool, true, not, cond, ◌&&◌, List, ◌∷◌, ◌++◌, ℕ, zero, suc, ◌+◌, ◌-◌, ◌*◌, ◌/◌, ◌%◌, length, get_or, leb, ltb, eqb}
+use Rattle.std.specs.Prelude.{Bool, true, not, cond, ◌&&◌, List, ◌∷◌, ◌++◌, ℕ, zero, suc, ◌+◌, ◌-◌, ◌*◌, ◌/◌, ◌%◌, length, get_or, leb, ltb, eqb, Option, None}
 use Rattle.model.specs.declared.Inode.{Inode}
-use Rattle.model.specs.declared.WalkEnd.{WalkEnd}
-use Rattle.model.specs.declared.WalkEnd.TheVariants.{Hole}
 use Rattle.model.specs.Lists.{tabulate, joined, every, pick_from, member, distinct}
 use Rattle.model.specs.Layout.{Layout, files}
 use Rattle.model.specs.Tree.{span, cell, link, walk, visits, shown, blocks, data_blocks, sound}
@@ -10,8 +8,8 @@ use Rattle.model.specs.Tree.{span, cell, link, walk, visits, shown, blocks, data
 -- A file by its root word r and its size n. *A file's root word is W × block + height.*
 module _ (W : ℕ) (b : List ℕ) (r n : ℕ) where
   -- the walk *starts at the root word; a byte past the span is in a hole*
-  unfoldable pub root_walk : ℕ → WalkEnd
-  root_walk i = cond (ltb i (span W (r % W))) (walk W b (r % W) (r / W) n i) Hole
+  unfoldable pub root_walk : ℕ → Option ℕ
+  root_walk i = cond (ltb i (span W (r % W))) (walk W b (r % W) (r / W) n i) None
 
   -- N6: how many blocks it visited, none to a byte past the span
   unfoldable pub root_visits : ℕ → ℕ
@@ -88,7 +86,7 @@ module _ (g : Layout) (b : List ℕ) where
   inode_of f = record { pointer = g.words * inode_block + f / g.inodes; at = root_address f; root = root f; size = size f }
 
   -- the walk to byte i of a file by its root word and its size
-  unfoldable pub file_walk : ℕ → ℕ → WalkEnd
+  unfoldable pub file_walk : ℕ → ℕ → Option ℕ
   file_walk f i = root_walk g.words b (root f) (size f) i
 
   -- N6: how many blocks it visited
@@ -99,7 +97,7 @@ module _ (g : Layout) (b : List ℕ) where
   unfoldable pub contents : ℕ → List ℕ
   contents f = tabulate (size f) (λ i. shown g.words b (file_walk f i) (i % span g.words 0))
 
-  -- *The walk to a byte* as a call, which takes any board and any file number. *Block number 0 means null: a hole, all zeros*, here also where a board
+  -- *The walk to a byte* as a call, which takes any board and any file number. *Some number 0 means null: a hole, all zeros*, here also where a board
   -- is so short or damaged that block 0 would be its trailer, its inode pointer block or a leaf. First the leaf of file f
   unfoldable pub linked_leaf : ℕ → ℕ
   linked_leaf f = link g.words b (link g.words b (block_count - 1) 0 / g.words) (f / g.inodes) / g.words
@@ -109,8 +107,8 @@ module _ (g : Layout) (b : List ℕ) where
   linked_word f j = link g.words b (linked_leaf f) (2 * (f % g.inodes) + j)
 
   -- and the walk; a file number past the last is a hole
-  unfoldable pub walk_to : ℕ → ℕ → WalkEnd
-  walk_to f i = cond (ltb f (files g)) (root_walk g.words b (linked_word f 0) (linked_word f 1) i) Hole
+  unfoldable pub walk_to : ℕ → ℕ → Option ℕ
+  walk_to f i = cond (ltb f (files g)) (root_walk g.words b (linked_word f 0) (linked_word f 1) i) None
 
   -- N6: how many blocks that walk visited
   unfoldable pub visits_to : ℕ → ℕ → ℕ

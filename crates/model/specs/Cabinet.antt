@@ -1,11 +1,10 @@
 -- The calls of *the cabinet's C program*, on a board image held as bytes. Document 01, 'What each call turns away', its last paragraph.
 use Rattle.std.specs.Prelude.{not, List, [], ◌∷◌, ◌++◌, ℕ, ◌%◌, length, eqb, ℤ}
 use Rattle.model.specs.declared.Fault.TheVariants.{WordCount}
-use Rattle.model.specs.declared.Answer.{Answer}
 use Rattle.model.specs.Words.{words_of}
 use Rattle.model.specs.Layout.{Layout}
 use Rattle.model.specs.Board.{size}
-use Rattle.model.specs.Answers.{Faults, answered, unless_refused, signed}
+use Rattle.model.specs.Answers.{Faults, answered, unless_refused, signed, Answer}
 use Rattle.model.specs.Calls.{board_faults, file_faults, read_count, read_buffer}
 
 -- *A byte count that isn't a multiple of 8 is refused 1.* So is one above the most words, by the board's own first fault

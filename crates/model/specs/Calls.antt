@@ -2,12 +2,11 @@
 -- write's as N3 of document 02 has it, and N6's count of visited blocks. A refusal answers its number and changes nothing.
 use Rattle.std.specs.Prelude.{not, ◌||◌, List, [], ◌∷◌, ◌++◌, ℕ, zero, suc, ◌+◌, ◌-◌, ◌*◌, ◌/◌, min, length, get_or, take, drop, leb, ltb}
 use Rattle.model.specs.declared.Fault.TheVariants.{WordCount, Trailer, Damaged, FileNumber, End, FreeBlocks, PlanLength, PairCount, Address}
-use Rattle.model.specs.declared.Answer.{Answer}
 use Rattle.model.specs.Lists.{sum, all}
 use Rattle.model.specs.Layout.{Layout, files}
 use Rattle.model.specs.Tree.{span}
 use Rattle.model.specs.Board.{root_visits, greatest, root, size, contents, free, word_count_sound, trailer_sound, trees_sound}
-use Rattle.model.specs.Answers.{Faults, answered, unless_refused}
+use Rattle.model.specs.Answers.{Faults, answered, unless_refused, Answer}
 use Rattle.model.specs.Store.{Store, is_barrier, stores, performed, paired, laid}
 use Rattle.model.specs.Plan.{Plan, pairs}
 use Rattle.model.specs.Change.{write_plan, length_plan}
@@ -64,7 +63,7 @@ module _ (g : Layout) (b : List ℕ) where
   unfoldable pub visited : ℕ → ℕ → ℕ → ℕ
   visited f o l = root_visited g.words b (root g b f) (size g b f) o l
 
-  -- of a read: the bytes that it counts. *Refused: as before, with count 0*
+  -- of a read: the bytes that it counts. *Err: as before, with count 0*
   unfoldable pub read_visited : ℕ → ℕ → List ℕ → ℕ
   read_visited f o out = unless_refused (read_answer f o out) (visited f o (read_count f o out)) 0
 

@@ -1,9 +1,7 @@
 -- How a write and a length change are planned. Document 01, 'How a change is planned', and N3 of document 02, *Writing past the end*: a write of `new`,
 -- L bytes, at o; e = o + L, and s is the size. Where c is an argument, c fresh blocks are taken before.
-use Rattle.std.specs.Prelude.{Bool, not, cond, ◌&&◌, ◌||◌, List, [], ◌∷◌, ◌++◌, ℕ, zero, suc, ◌+◌, ◌-◌, ◌*◌, ◌/◌, ◌%◌, max, length, get_or, replicate, leb, ltb, eqb}
+use Rattle.std.specs.Prelude.{Bool, not, cond, ◌&&◌, ◌||◌, List, [], ◌∷◌, ◌++◌, ℕ, zero, suc, ◌+◌, ◌-◌, ◌*◌, ◌/◌, ◌%◌, max, length, get_or, replicate, leb, ltb, eqb, Option, Some, None}
 use Rattle.model.specs.declared.Inode.{Inode}
-use Rattle.model.specs.declared.WalkEnd.{WalkEnd}
-use Rattle.model.specs.declared.WalkEnd.TheVariants.{Block, Hole}
 use Rattle.model.specs.Lists.{tabulate, concat}
 use Rattle.model.specs.Words.{byte_of, word_of}
 use Rattle.model.specs.Layout.{Layout}
@@ -73,8 +71,8 @@ unfoldable pub spliced_word : ℕ → List ℕ → ℕ → ℕ
 spliced_word o new x = word_of 8 (λ i. splice o new (byte_of x i) i)
 
 -- *If e ≤ s, all bytes fall in one word and its data block exists*: that block. Growth comes before no such write, so the lent board decides
-unfoldable pub single_block : (g : Layout) (b : List ℕ) (f o e : ℕ) → WalkEnd
-single_block g b f o e = cond (leb e (size g b f) && eqb (o / 8) ((e - 1) / 8)) (file_walk g b f o) Hole
+unfoldable pub single_block : (g : Layout) (b : List ℕ) (f o e : ℕ) → Option ℕ
+single_block g b f o e = cond (leb e (size g b f) && eqb (o / 8) ((e - 1) / 8)) (file_walk g b f o) None
 
 -- *one store*, in data block k
 unfoldable pub single_word : (g : Layout) (b : List ℕ) (k o : ℕ) → List ℕ → Plan
@@ -181,9 +179,9 @@ grown_plan g fresh b n o new =
 
 module _ (g : Layout) (fresh : ℕ → ℕ) (b : List ℕ) (f : ℕ) where
   -- a single word, or ways 2 and 4 to 6
-  unfoldable pub some_plan : WalkEnd → ℕ → List ℕ → Plan
-  some_plan (Block k) o new = single_word g b k o new
-  some_plan Hole o new = grown_plan g fresh b (inode_of g b f) o new
+  unfoldable pub some_plan : Option ℕ → ℕ → List ℕ → Plan
+  some_plan (Some k) o new = single_word g b k o new
+  some_plan None o new = grown_plan g fresh b (inode_of g b f) o new
 
   -- *1. L = 0: an empty plan.*
   unfoldable pub write_plan : ℕ → List ℕ → Plan

@@ -1,8 +1,6 @@
 -- What document 01, and N1, N3 and N11 of document 02, promise of these definitions, as statements. All are proved; README says where.
-use Rattle.std.specs.Prelude.{◌≡◌, ◌≢◌, ◌⊎◌, ◌↔◌, Bool, false, ◌&&◌, List, [], ◌∷◌, map, ℕ, zero, suc, ◌+◌, ◌-◌, ◌*◌, ◌/◌, ◌%◌, ◌≤◌, ◌<◌, length, get_or, take, drop, T, leb, eqb}
-use Rattle.model.specs.declared.Answer.TheVariants.{Done, Refused}
+use Rattle.std.specs.Prelude.{◌≡◌, ◌≢◌, ◌⊎◌, ◌↔◌, Bool, false, ◌&&◌, List, [], ◌∷◌, map, ℕ, zero, suc, ◌+◌, ◌-◌, ◌*◌, ◌/◌, ◌%◌, ◌≤◌, ◌<◌, length, get_or, take, drop, T, leb, eqb, Ok, Err, Some, None}
 use Rattle.model.specs.declared.Fault.TheVariants.{Trailer}
-use Rattle.model.specs.declared.WalkEnd.TheVariants.{Block, Hole}
 use Rattle.model.specs.Lists.{sum, all, filter, member, distinct}
 use Rattle.model.specs.Words.{byte_of, Bytes}
 use Rattle.model.specs.Layout.{Layout, Fits, house, files}
@@ -22,7 +20,7 @@ use Rattle.model.specs.Safe.{left, SafePlan, decided}
 
 -- *Check* answers 0 exactly where the board is accepted
 abbrev pub CheckRule : Type 0
-CheckRule = (g : Layout) (b : List ℕ) → (check_answer g b ≡ Done 0) ↔ T (accepted g b)
+CheckRule = (g : Layout) (b : List ℕ) → (check_answer g b ≡ Ok 0) ↔ T (accepted g b)
 
 -- ---- The walk to a byte
 
@@ -31,13 +29,13 @@ pub record Walked (g : Layout) (b : List ℕ) (f : ℕ) : Type 0 where
   -- it is the walk by which the file's contents are defined
   pub same : (i : ℕ) → walk_to g b f i ≡ file_walk g b f i
   -- it *ends at a block*, a live data block of the file, *or in a hole*
-  pub ends : (i k : ℕ) → walk_to g b f i ≡ Block k → T (member k (file_data g b f))
+  pub ends : (i k : ℕ) → walk_to g b f i ≡ Some k → T (member k (file_data g b f))
   pub lives : (k : ℕ) → T (member k (file_data g b f)) → T (member k (file_blocks g b f))
   -- at each of these blocks, from a byte below the size, and at none from bytes that lie in different blocks of the file
-  pub reaches : (k : ℕ) → T (member k (file_data g b f)) → (i : ℕ) × (i < size g b f) × (walk_to g b f i ≡ Block k)
-  pub once : (i j k : ℕ) → walk_to g b f i ≡ Block k → walk_to g b f j ≡ Block k → i / span g.words 0 ≡ j / span g.words 0
+  pub reaches : (k : ℕ) → T (member k (file_data g b f)) → (i : ℕ) × (i < size g b f) × (walk_to g b f i ≡ Some k)
+  pub once : (i j k : ℕ) → walk_to g b f i ≡ Some k → walk_to g b f j ≡ Some k → i / span g.words 0 ≡ j / span g.words 0
   -- *under a pointer that isn't live* is a hole: where the byte's block of the file would begin at or past the size
-  pub past : (i : ℕ) → size g b f ≤ i / span g.words 0 * span g.words 0 → walk_to g b f i ≡ Hole
+  pub past : (i : ℕ) → size g b f ≤ i / span g.words 0 * span g.words 0 → walk_to g b f i ≡ None
 
 -- in every file of an accepted board
 abbrev pub WalkRule : Type 0
@@ -45,7 +43,7 @@ WalkRule = (g : Layout) → Fits g → (b : List ℕ) → T (accepted g b) → (
 
 -- on no board does a walk end at block 0, so that C can be told a hole by that number
 abbrev pub NullRule : Type 0
-NullRule = (g : Layout) (b : List ℕ) (f i : ℕ) → walk_to g b f i ≢ Block 0
+NullRule = (g : Layout) (b : List ℕ) (f i : ℕ) → walk_to g b f i ≢ Some 0
 
 -- ---- Plans
 
@@ -220,4 +218,4 @@ abbrev pub FormatRule : Type 0
 FormatRule = (g : Layout) → Fits g → (b : List ℕ) → T (word_count_sound g b) → (slice : List ℕ) (x : Cut)
     → let ss : List Store = plan_of (format g b slice) in
     let b' : List ℕ = standing ss x b in
-    Names ss x → (b' ≡ b) ⊎ (((trailer g b' 0 ≡ 0) × (check_answer g b' ≡ Refused Trailer)) ⊎ Empty g b')
+    Names ss x → (b' ≡ b) ⊎ (((trailer g b' 0 ≡ 0) × (check_answer g b' ≡ Err Trailer)) ⊎ Empty g b')

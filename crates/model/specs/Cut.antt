@@ -1,7 +1,6 @@
 -- A power cut: the calls that the rule speaks of, the blocks that they give up, what a file is to read as, and what stands. Document 01, 'The power-cut rule', with
 -- N3 of document 02. *The cabinet sets a barrier of its own after each plan's last store*, so one plan is looked at by itself.
 use Rattle.std.specs.Prelude.{Bool, ◌&&◌, List, [], ◌∷◌, ◌++◌, ℕ, suc, ◌+◌, ◌-◌, ◌<◌, max, length, get_or, take, drop, replicate, eqb}
-use Rattle.model.specs.declared.Answer.{Answer}
 use Rattle.model.specs.Lists.{cons_if, concat}
 use Rattle.model.specs.Words.{Bytes}
 use Rattle.model.specs.Layout.{Layout}
@@ -9,7 +8,7 @@ use Rattle.model.specs.Store.{Store, performed, paired, epochs}
 use Rattle.model.specs.Plan.{Plan}
 use Rattle.model.specs.Change.{write_plan, length_plan}
 use Rattle.model.specs.GivenUp.{length_gives, write_gives}
-use Rattle.model.specs.Answers.{unless_refused, counted}
+use Rattle.model.specs.Answers.{unless_refused, counted, Answer}
 use Rattle.model.specs.Calls.{Planned, lowest, write_from, set_length}
 
 -- *both calls, all arguments*: bytes written to a file at an offset; a file's length set

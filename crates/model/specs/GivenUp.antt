@@ -1,8 +1,6 @@
 -- The blocks that a change gives up: those that are live before it, or that its growth took, and are not live after it. Document 02, N5.
-use Rattle.std.specs.Prelude.{cond, List, [], ◌∷◌, ◌++◌, ℕ, zero, suc, ◌+◌, ◌-◌, ◌*◌, ◌/◌, ◌%◌, length, leb, ltb}
+use Rattle.std.specs.Prelude.{cond, List, [], ◌∷◌, ◌++◌, ℕ, zero, suc, ◌+◌, ◌-◌, ◌*◌, ◌/◌, ◌%◌, length, leb, ltb, Option, Some, None}
 use Rattle.model.specs.declared.Inode.{Inode}
-use Rattle.model.specs.declared.WalkEnd.{WalkEnd}
-use Rattle.model.specs.declared.WalkEnd.TheVariants.{Block, Hole}
 use Rattle.model.specs.Lists.{joined, concat}
 use Rattle.model.specs.Layout.{Layout}
 use Rattle.model.specs.Tree.{span, cell, link, blocks}
@@ -55,9 +53,9 @@ length_gives g b f n = cond (ltb n (size g b f)) (dropped_blocks g.words b (root
 
 module _ (g : Layout) (fresh : ℕ → ℕ) (b : List ℕ) (f : ℕ) where
   -- a write: a single word gives up none; another is planned on the grown board, so that growth's blocks may be given up too
-  unfoldable pub some_gives : WalkEnd → ℕ → List ℕ → List ℕ
-  some_gives (Block k) o new = []
-  some_gives Hole o new =
+  unfoldable pub some_gives : Option ℕ → ℕ → List ℕ → List ℕ
+  some_gives (Some k) o new = []
+  some_gives None o new =
       let p : Plan = growth g fresh (inode_of g b f) (o + length new) in
       way_gives g (performed b (concat (plan_epochs p.steps))) (grown_inode g fresh (inode_of g b f) (o + length new)) o new
 

@@ -1,16 +1,14 @@
 -- Writing at the end of a file in place: *one epoch of hidden stores*, for a tail and for a length change.
-use Rattle.std.specs.Prelude.{Bool, true, false, List, [], ◌∷◌, ℕ, zero, suc, ◌+◌, ◌-◌, ◌*◌, ◌/◌, ◌%◌, length}
-use Rattle.model.specs.declared.WalkEnd.{WalkEnd}
-use Rattle.model.specs.declared.WalkEnd.TheVariants.{Block, Hole}
+use Rattle.std.specs.Prelude.{Bool, true, false, List, [], ◌∷◌, ℕ, zero, suc, ◌+◌, ◌-◌, ◌*◌, ◌/◌, ◌%◌, length, Option, Some, None}
 use Rattle.model.specs.Lists.{joined, sum, choose}
 use Rattle.model.specs.Tree.{ending, span, cell, link}
 use Rattle.model.specs.Store.{Store, store}
 use Rattle.model.specs.Fresh.{Page, part, part_length, need, data_page, build}
 
 -- a walk ended at a block
-unfoldable pub at_block : WalkEnd → Bool
-at_block Hole = false
-at_block (Block k) = true
+unfoldable pub at_block : Option ℕ → Bool
+at_block None = false
+at_block (Some k) = true
 
 -- the store to a pointer at address a that isn't live, where `new` is written beneath it, none where that is no byte: `hook h l c` is what a pointer over
 -- height h gets that leads to l of the bytes, with c fresh blocks taken before
@@ -32,7 +30,7 @@ module _ (W : ℕ) where
 
   module _ (b : List ℕ) where
     -- the walk to byte n, the first past the n bytes below the size, *along live pointers*: the last live block, or a hole where one of them is null
-    unfoldable pub walk_live : ℕ → ℕ → ℕ → WalkEnd
+    unfoldable pub walk_live : ℕ → ℕ → ℕ → Option ℕ
     walk_live zero k n = ending k n
     walk_live (suc h) k n = choose (n % span W h) (ending k n) (walk_live h (link W b k (n / span W h) / W) (n % span W h))
 

@@ -1,7 +1,5 @@
 -- The figures of a kind of board. Document 01 has one kind, the house's, N11 of document 02 a second; definitions and laws take any.
 use Rattle.std.specs.Prelude.{ℕ, ◌+◌, ◌*◌, ◌^◌, ◌≤◌, ◌<◌}
-use Rattle.model.specs.declared.Kind.{Kind}
-use Rattle.model.specs.declared.Kind.TheVariants.{House, Published}
 
 pub record Layout : Type 0 where
   -- words per block
@@ -23,6 +21,11 @@ house = record { words = 8; height = 3; leaves = 8; inodes = 4; mark = 1; most =
 -- N11: a board with the published block. *16 to 512 blocks of 512 words*; *heights are 0 and 1*; *files number 32 in one leaf*; of the trailer *word 3 is 3*
 abbrev pub published : Layout
 published = record { words = 512; height = 1; leaves = 1; inodes = 32; mark = 3; most = 512 }
+
+-- a kind of board: document 01's, with blocks of 8 words, and N11's, with blocks of 512
+pub data Kind : Type 0 where
+  House : Kind
+  Published : Kind
 
 -- the figures of each kind
 abbrev pub layout_of : Kind → Layout

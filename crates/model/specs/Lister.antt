@@ -1,13 +1,11 @@
 -- What the lister program prints, as bytes. Document 01, E13, with the column of N1 of document 02.
-use Rattle.std.specs.Prelude.{cond, List, [], ◌∷◌, ◌++◌, ℕ, zero, suc, ◌+◌, ◌/◌, ◌%◌, length, ltb}
-use Rattle.model.specs.declared.Answer.{Answer}
-use Rattle.model.specs.declared.Answer.TheVariants.{Done, Refused}
+use Rattle.std.specs.Prelude.{cond, List, [], ◌∷◌, ◌++◌, ℕ, zero, suc, ◌+◌, ◌/◌, ◌%◌, length, ltb, Ok, Err}
 use Rattle.model.specs.Lists.{joined}
 use Rattle.model.specs.Words.{words_of}
 use Rattle.model.specs.Layout.{Layout, files}
 use Rattle.model.specs.Tree.{live}
 use Rattle.model.specs.Board.{block_count, root_height, size, file_blocks, free}
-use Rattle.model.specs.Answers.{number}
+use Rattle.model.specs.Answers.{number, Answer}
 use Rattle.model.specs.Cabinet.{image_check_answer}
 
 -- a number of at most `most` + 1 digits, in decimal
@@ -65,8 +63,8 @@ module _ (g : Layout) (b : List ℕ) where
 
 -- *A refused image prints only `refused` and the number*
 unfoldable pub answer_lines : Layout → List ℕ → Answer → List ℕ
-answer_lines g b (Done n) = board_lines g b
-answer_lines g b (Refused f) = line word_refused (number f) []
+answer_lines g b (Ok n) = board_lines g b
+answer_lines g b (Err f) = line word_refused (number f) []
 
 -- what is printed for an image
 unfoldable pub listing : Layout → List ℕ → List ℕ

@@ -1,7 +1,6 @@
 -- PlanRule, FreshRule, PowerCutRule and AccuracyRule of Claims for any order of taking blocks, document 01's among them; that the plans are safe
 -- and leave walks in other files; and which blocks are live afterwards.
-use Rattle.std.specs.Prelude.{◌≡◌, ◌≢◌, ◌↔◌, List, map, ℕ, ◌+◌, ◌-◌, ◌/◌, ◌<◌, length, T}
-use Rattle.model.specs.declared.Answer.TheVariants.{Done}
+use Rattle.std.specs.Prelude.{◌≡◌, ◌≢◌, ◌↔◌, List, map, ℕ, ◌+◌, ◌-◌, ◌/◌, ◌<◌, length, T, Ok}
 use Rattle.model.specs.Lists.{tabulate, all, member, occ}
 use Rattle.model.specs.Layout.{Layout, Fits, files}
 use Rattle.model.specs.Board.{walk_to, contents, live_blocks, free, in_range, accepted}
@@ -47,7 +46,7 @@ module _ (g : Layout) (fresh : ℕ → ℕ) (b : List ℕ) (c : Change) (slice :
     pub alters : Altered g b (performed b (stores ss)) (file_of c) wanted
     -- and, where it is done, that the live blocks after it and those given up are the live blocks before it and those taken, each as often as it occurs:
     -- the live blocks are then those before, less those given up, and those taken and kept
-    pub lives : (n : ℕ) → call.answer ≡ Done n
+    pub lives : (n : ℕ) → call.answer ≡ Ok n
         → (q : ℕ) → occ q (live_blocks g (performed b (stores ss))) + occ q (given_up g fresh b c) ≡ occ q (live_blocks g b) + occ q (taken_blocks g fresh b c)
 
 -- for every accepted board, every order, both calls and all arguments

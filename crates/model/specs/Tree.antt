@@ -1,9 +1,7 @@
 -- Block trees. A tree is (h, k, n): its height, its block (0 is null, a hole) and how many of its bytes lie below the file's size.
 -- The pointer to it is *live* when n > 0: then the first byte of its span lies below the size. Where a block's pointers are
 -- followed, child j has n - j * span h of those bytes, so neither liveness nor a size past the span needs another test.
-use Rattle.std.specs.Prelude.{Bool, true, false, cond, ◌&&◌, List, [], ◌∷◌, ℕ, zero, suc, ◌+◌, ◌-◌, ◌*◌, ◌/◌, ◌%◌, get_or, leb, ltb, eqb}
-use Rattle.model.specs.declared.WalkEnd.{WalkEnd}
-use Rattle.model.specs.declared.WalkEnd.TheVariants.{Block, Hole}
+use Rattle.std.specs.Prelude.{Bool, true, false, cond, ◌&&◌, List, [], ◌∷◌, ℕ, zero, suc, ◌+◌, ◌-◌, ◌*◌, ◌/◌, ◌%◌, get_or, leb, ltb, eqb, Option, Some, None}
 use Rattle.model.specs.Lists.{every, joined}
 use Rattle.model.specs.Words.{byte_of}
 
@@ -17,11 +15,11 @@ unfoldable pub seen : ℕ → ℕ → ℕ
 seen zero w = 0
 seen (suc n) w = w
 
--- where a walk ends that arrives at block k
-unfoldable pub ending : ℕ → ℕ → WalkEnd
-ending zero n = Hole
-ending (suc k) zero = Hole
-ending (suc k) (suc n) = Block (suc k)
+-- where a walk ends that arrives at block k: there, or in a hole, which is none
+unfoldable pub ending : ℕ → ℕ → Option ℕ
+ending zero n = None
+ending (suc k) zero = None
+ending (suc k) (suc n) = Some (suc k)
 
 -- N6: how many blocks a walk visits that arrives at block k: none where it is null or the pointer to it isn't live
 unfoldable pub visit : ℕ → ℕ → ℕ
@@ -58,7 +56,7 @@ module _ (W : ℕ) where
 
     -- *The walk to a byte* i of the tree. *The height falls by one at each pointer followed; at 0 the block holds data.*
     -- *Under a pointer that isn't live* it ends in a hole, since there n is 0 to the end
-    unfoldable pub walk : ℕ → ℕ → ℕ → ℕ → WalkEnd
+    unfoldable pub walk : ℕ → ℕ → ℕ → ℕ → Option ℕ
     walk zero k n i = ending k n
     walk (suc h) k n i = walk h (link k (i / span h) / W) (n - i / span h * span h) (i % span h)
 
@@ -68,9 +66,9 @@ module _ (W : ℕ) where
     visits (suc h) k n i = visit k n + visits h (link k (i / span h) / W) (n - i / span h * span h) (i % span h)
 
     -- byte i of the block where a walk ended
-    unfoldable pub shown : WalkEnd → ℕ → ℕ
-    shown Hole i = 0
-    shown (Block k) i = byte_of (cell k (i / 8)) (i % 8)
+    unfoldable pub shown : Option ℕ → ℕ → ℕ
+    shown None i = 0
+    shown (Some k) i = byte_of (cell k (i / 8)) (i % 8)
 
     -- the *live blocks* of the tree
     unfoldable pub blocks : ℕ → ℕ → ℕ → List ℕ

@@ -1,47 +1,48 @@
 // Types that contracts and code share. What they mean is defined in specs/.
 #![tactic(auto)]
 
-// Why a call is refused. specs/Answers.antt has each fault's number.
-#[derive(Clone, Copy)]
+ghost use Rattle.std.specs.Prelude.{◌≡◌};
+ghost use Rattle.model.specs.Answers.{number};
+
+// Why a call is refused, and by which number: specs/Answers.antt has both too.
+#[derive(Clone, Copy, Debug, PartialEq, Eq)]
 pub enum Fault {
-    // 1: the board's word count
-    WordCount,
-    // 2: a word of the trailer
-    Trailer,
-    // 3: any other reason not to be accepted
-    Damaged,
-    // 4: the file number
-    FileNumber,
-    // 6: an end past the greatest size
-    End,
-    // 7: too few free blocks
-    FreeBlocks,
-    // 8: a plan slice that is too short
-    PlanLength,
-    // 9: more pairs than the plan's words hold
-    PairCount,
-    // 10: an address off the board
-    Address,
+    // the board's word count
+    WordCount = 1,
+    // a word of the trailer
+    Trailer = 2,
+    // any other reason not to be accepted
+    Damaged = 3,
+    // the file number
+    FileNumber = 4,
+    // an end past the greatest size; 5 never occurs
+    End = 6,
+    // too few free blocks
+    FreeBlocks = 7,
+    // a plan slice that is too short
+    PlanLength = 8,
+    // more pairs than the plan's words hold
+    PairCount = 9,
+    // an address off the board
+    Address = 10,
 }
 
-// What a call answers: done, with a number, or refused.
-#[derive(Clone, Copy)]
-pub enum Answer {
-    Done(u64),
-    Refused(Fault),
+impl From<Fault> for u64 {
+    ghost from_gives = { λ fault n. n ≡ number fault };
+
+    #[tactic(auto, unfolding(crate::specs::Answers::number))]
+    fn from(fault: Fault) -> u64 {
+        fault as u64
+    }
 }
 
-// Where the walk to a byte ends.
-#[derive(Clone, Copy)]
-pub enum WalkEnd {
-    Block(u64),
-    Hole,
-}
+// What a call answers: a number, or why it is refused.
+pub type Answer = Result<u64, Fault>;
 
-// N6 of document 02: where the walk to a byte ends, and how many blocks it visited.
+// N6 of document 02: where the walk to a byte ends, a block or none in a hole, and how many blocks it visited.
 #[derive(Clone, Copy)]
 pub struct VisitedEnd {
-    pub end: WalkEnd,
+    pub end: Option<u64>,
     pub visited: u64,
 }
 
@@ -59,13 +60,4 @@ pub struct Inode {
     pub at: u64,
     pub root: u64,
     pub size: u64,
-}
-
-// A kind of board; specs/Layout.antt has each kind's figures. Each kind has calls of its own.
-#[derive(Clone, Copy)]
-pub enum Kind {
-    // document 01's: blocks of 8 words
-    House,
-    // N11 of document 02: blocks of 512 words
-    Published,
 }

@@ -1,3 +1,3 @@
--- What the proofs of several functions use: the pairs that a slice holds (Pairs), and perform's loops and ways out (Performing).
+-- What the proofs of several functions use: the pairs that a slice holds, chunk by chunk (Pairs), and perform's loops and ways out (Performing).
 pub mod Pairs
 pub mod Performing

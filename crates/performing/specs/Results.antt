@@ -1,6 +1,6 @@
 -- What perform answers and leaves: the definition's, on all inputs.
+use Rattle.model.specs.Answers.{Answer}
 use Rattle.std.specs.Prelude.{◌≡◌, List, ℕ}
-use Rattle.model.specs.declared.Answer.{Answer}
 use Rattle.model.specs.Layout.{Layout}
 use Rattle.model.specs.Calls.{perform_answer, perform_board}
 

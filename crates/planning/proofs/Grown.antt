@@ -8,7 +8,7 @@ use native.Mathlib.Omega.{arith}
 use lib.ListN.{length, length-append}
 use lib.Dec.{leb}
 use Rattle.model.specs.declared.Inode.{Inode}
-use Rattle.model.specs.declared.Kind.{Kind}
+use Rattle.model.specs.Layout.{Kind}
 use Rattle.model.specs.Lists.{tabulate, concat}
 use Rattle.model.specs.Layout.{Layout, layout_of}
 use Rattle.model.specs.Tree.{least}
@@ -26,7 +26,7 @@ use Rattle.model.proofs.Formatted.{fits}
 use Rattle.kinds.proofs.Figures.{words_pos, low_height}
 use Rattle.plans.specs.declared.Grown.{Grown}
 use Rattle.plans.specs.Laying.{closing, Laid, PlanLaid}
-use Rattle.plans.specs.Onto.{taking, Blocks, onto, NotGrown}
+use Rattle.plans.specs.Onto.{taking, Blocks, onto, NotGrown, Pointers}
 use Rattle.plans.proofs.Laying as Laying
 use Rattle.plans.proofs.Onto.{onto_none}
 use Rattle.plans.specs.declared.Count.{Count}
@@ -152,10 +152,12 @@ module _ {kind : Kind} {bits : ℕ} {pages : List ℕ} {n : Inode} {o : ℕ} {ne
 
   -- where there is none
   module _ (t : growing G n e ≡ false) {grown : Grown} (none : NotGrown grown) where
-    pub still_ready : Ready kind bits n o new table pages grown grown.base grown.levels
+    pub still_points : Pointers bits table grown
+    still_points = record { width = room.wide.width; blocks = g.blocks; below = rw none.null (omega arith) }
+
+    pub still_ready : Ready kind bits n o new pages grown.base grown.levels
     still_ready = record {
       pages = room;
-      pointers = record { width = room.wide.width; blocks = g.blocks; below = rw none.null (omega arith) };
       some = g.some;
       end = g.end;
       address = g.address;
@@ -182,11 +184,11 @@ module _ {kind : Kind} {bits : ℕ} {pages : List ℕ} {n : Inode} {o : ℕ} {ne
     low = low_height kind h reached.1
 
     -- what `grow` asks, and `grown_root`
-    pub may_grow : Bits kind bits × Blocks table × (n.root % G.words ≤ h) × (h < 8)
-    may_grow = (room.wide, g.blocks, reached.0, omega (arith, low))
+    pub may_grow : Blocks table × (n.root % G.words ≤ h) × (h < 8)
+    may_grow = (g.blocks, reached.0, omega (arith, low))
 
-    pub may_hook : Width bits × Blocks table × (n.root % 2 ^ bits ≤ h) × (h < 8)
-    may_hook = (room.wide.width, g.blocks, rw (← room.wide.is) reached.0, omega (arith, low))
+    pub may_hook : Blocks table × (n.root % 2 ^ bits ≤ h) × (h < 8)
+    may_hook = (g.blocks, rw (← room.wide.is) reached.0, omega (arith, low))
 
     pub counted : {slice slice' : List ℕ} {count : Count} → PlanLaid slice 0 (growth_to G (taking table) n h) slice' count → GrowthCount (2 ^ bits) count
     counted w = rw room.wide.is at (growth_count G (taking table) n h low w)
@@ -210,11 +212,13 @@ module _ {kind : Kind} {bits : ℕ} {pages : List ℕ} {n : Inode} {o : ℕ} {ne
         abbrev after : ℕ → Grown
         after base = record { below = k; levels = count.taken; at = n.at; root = v; base = base }
 
-        pub grown_ready : {base : ℕ} → base + 2 ^ bits * count.taken ≤ 2 ^ 16 → Ready kind bits grown_node o new table pages (after base) base count.taken
+        pub grown_points : (base : ℕ) → Pointers bits table (after base)
+        grown_points base = record { width = room.wide.width; blocks = g.blocks; below = rw ek (omega (arith, div-mul-le_self n.root (2 ^ bits), mul_comm (2 ^ bits) (n.root / 2 ^ bits))) }
+
+        pub grown_ready : {base : ℕ} → base + 2 ^ bits * count.taken ≤ 2 ^ 16 → Ready kind bits grown_node o new pages base count.taken
         unfolding greatest
         grown_ready place = record {
           pages = room;
-          pointers = record { width = room.wide.width; blocks = g.blocks; below = rw ek (omega (arith, div-mul-le_self n.root (2 ^ bits), mul_comm (2 ^ bits) (n.root / 2 ^ bits))) };
           some = g.some;
           end = g.end;
           address = g.address;

@@ -9,7 +9,7 @@ use native.Mathlib.Nat.{sub-zero}
 use lib.ListN.{length, get_or, replicate}
 use lib.Dec.{ltb}
 use borrow.Author.Tests.{lt-ltb, le-ltb, eq-eqb, ne_eqb}
-use Rattle.model.specs.declared.Kind.{Kind}
+use Rattle.model.specs.Layout.{Kind}
 use Rattle.model.specs.Layout.{Layout, layout_of}
 use Rattle.model.specs.Board.{root_address, root, size, size_address}
 use Rattle.model.specs.Store.{Store, store, fenced, laid}
@@ -21,6 +21,7 @@ use Rattle.model.proofs.Plans.{cleared_empty, cleared_live}
 use Rattle.kinds.specs.Figures.{Bits}
 use Rattle.model.proofs.Formatted.{fits}
 use Rattle.kinds.proofs.Figures.{files_32}
+use Rattle.trees.specs.declared.Tree.{Tree}
 use Rattle.plans.specs.Laying.{closing, Laid}
 use Rattle.plans.proofs.Laying as Laying
 use Rattle.boards.specs.Inodes.{AddressOf}
@@ -60,14 +61,14 @@ module _ {g : Layout} {b : List ℕ} {f at s : ℕ} (a : AddressOf g b f at) (es
     length_from_empty z e w = Laying.same_pairs (sized (store at 0 ∷ []) d (hidden_are ∙ cleared_empty g b f n s z ∙ rw a.is)) (Laying.more (Laying.one e) w)
 
     -- *n > s: one epoch, then the size*
-    pub length_more : {slice slice₁ slice' : List ℕ} {W h k r q x : ℕ} → g.words ≡ W → s ≢ 0 → x ≡ get_or b at 0 → h ≡ x % W → k ≡ x / W
-        → Laid slice 0 (in_place W b (λ h l c. 0) h k s (replicate (n - s) 0) 0 at) slice₁ q → Laid slice₁ q (closing (q - 0) (store (at + 1) n)) slice' r
+    pub length_more : {slice slice₁ slice' : List ℕ} {W r q x : ℕ} {u : Tree} → g.words ≡ W → s ≢ 0 → x ≡ get_or b at 0 → u ≡ record { height = x % W; block = x / W; left = s }
+        → Laid slice 0 (in_place W b (λ h l c. 0) u.height u.block u.left (replicate (n - s) 0) 0 at) slice₁ q → Laid slice₁ q (closing (q - 0) (store (at + 1) n)) slice' r
         → Laid slice 0 (pairs (length_plan g b f n)) slice' r
     unfolding root
-    length_more {W = W} {h} {k} {q = q} is z ex eh ek u w =
+    length_more {W = W} {q = q} {u = u} is z ex eu laid w =
         let ss : List Store = cleared g b f s n in
-        let here : in_place W b (λ h l c. 0) h k s (replicate (n - s) 0) 0 at ≡ ss = rw (eh, ek, ex, ← is, a.is) (sym (cleared_live g b f n s (omega arith))) in
-        let stored = Laying.same_pairs here u in
+        let here : in_place W b (λ h l c. 0) u.height u.block u.left (replicate (n - s) 0) 0 at ≡ ss = rw (eu, ex, ← is, a.is) (sym (cleared_live g b f n s (omega arith))) in
+        let stored = Laying.same_pairs here laid in
         let count : q ≡ length ss = omega (arith, stored.next) in
         Laying.same_pairs (sized ss d hidden_are) (Laying.more (rw count at stored) (rw (sub-zero q, count) at w))
 

@@ -1,7 +1,7 @@
 -- What the functions that plan a write and a length change are asked on.
 use Rattle.std.specs.Prelude.{List, ℕ, ◌+◌, ◌%◌, ◌^◌, ◌≤◌, ◌<◌, length, T}
 use Rattle.model.specs.declared.Inode.{Inode}
-use Rattle.model.specs.declared.Kind.{Kind}
+use Rattle.model.specs.Layout.{Kind}
 use Rattle.model.specs.Layout.{layout_of}
 use Rattle.model.specs.Board.{greatest, accepted}
 use Rattle.plans.specs.Onto.{Blocks}

@@ -57,11 +57,39 @@ module _ (W : ℕ) (fresh : ℕ → ℕ) where
   unfolding store
   page_away x k p n = all_tabulate (λ s. x ≢ s.at) W (page_store W k p) (λ j l. block_away W k j x l n)
 
-  -- word x once pages are stored to the first d blocks: by the last of them that is its own
-  abbrev level_word : (b : List ℕ) (f : ℕ → Page) (x d : ℕ) → ℕ
-  level_word b f x d = let t = level_of fresh d (x / W) in choose t (get_or b x 0) (f (t - 1) (x % W))
+  -- word x once pages are stored to the first d blocks, none of them its own
+  levels_none : (b : List ℕ) (f : ℕ → Page) (x d : ℕ) → ((i : ℕ) → i < d → fresh i ≢ x / W) → get_or (performed b (stored W fresh (tabulate d f) 0)) x 0 ≡ get_or b x 0
+  unfolding stored tabulate performed
+  levels_none b f x zero none = refl
+  levels_none b f x (suc d) none =
+      ap (λ (l : List ℕ). get_or l x 0) (performed_more b f d)
+      ∙ performed_away (performed b (stored W fresh (tabulate d f) 0)) (tabulate W (page_store W (fresh d) (f d))) x (page_away x (fresh d) (f d) (λ e. none d (omega arith) (sym e)))
+      ∙ levels_none b f x d (λ i l. none i (omega arith))
 
-  levels_word : 0 < W → (b : List ℕ) (f : ℕ → Page) (x : ℕ) → x < length b → (d : ℕ) → get_or (performed b (stored W fresh (tabulate d f) 0)) x 0 ≡ level_word b f x d
+  -- and by the last of them that is
+  levels_last : 0 < W → (b : List ℕ) (f : ℕ → Page) (x : ℕ) → x < length b → (d i : ℕ) → i < d → fresh i ≡ x / W → ((j : ℕ) → i < j → j < d → fresh j ≢ x / W)
+      → get_or (performed b (stored W fresh (tabulate d f) 0)) x 0 ≡ f i (x % W)
+  unfolding stored tabulate
+  levels_last pos b f x on zero i l e after = absurd (omega arith)
+  levels_last pos b f x on (suc d) i l e after =
+      let before = stored W fresh (tabulate d f) 0 in
+      let c = performed b before in
+      let page = tabulate W (page_store W (fresh d) (f d)) in
+      ap (λ (l : List ℕ). get_or l x 0) (performed_more b f d) ∙ (elim (decide d i) [
+        | inl z ↦
+            let at : W * fresh d + x % W ≡ x = rw (z, e) (omega (arith, div-add-mod' x W, mul_comm W (x / W))) in
+            let hit : get_or (performed c page) (W * fresh d + x % W) 0 ≡ f d (x % W) =
+            page_word c (fresh d) (f d) W (x % W) (mod-lt x pos) (rw (length_performed b before) (omega (arith, at, on))) in
+            rw at at hit ∙ ap (λ (k : ℕ). f k (x % W)) z
+        | inr n ↦
+            performed_away c page x (page_away x (fresh d) (f d) (λ z. after d (omega arith) (omega arith) (sym z))) ∙ levels_last pos b f x on d i (omega arith) e (λ j u v. after j u (omega arith))
+      ])
+
+  -- the same by the level in which it lies, counted from 1
+  abbrev word_in_level : (b : List ℕ) (f : ℕ → Page) (x d : ℕ) → ℕ
+  word_in_level b f x d = let t = level_of fresh d (x / W) in choose t (get_or b x 0) (f (t - 1) (x % W))
+
+  levels_word : 0 < W → (b : List ℕ) (f : ℕ → Page) (x : ℕ) → x < length b → (d : ℕ) → get_or (performed b (stored W fresh (tabulate d f) 0)) x 0 ≡ word_in_level b f x d
   unfolding stored tabulate performed level_of choose
   levels_word pos b f x on zero = refl
   levels_word pos b f x on (suc d) =
@@ -96,38 +124,30 @@ module _ (W : ℕ) (free b : List ℕ) (g : Grown) where
     pub word_root : x ≡ g.at → g.root ≡ get_or (onto W free b g) x 0
     word_root e = sym (rw (onto_set, e) (get_or-set_same (performed b grown_stores) g.at g.root 0 (rw (length_performed b grown_stores) (omega (arith, e, on)))))
 
-    module _ (pos : 0 < W) (away : x ≢ g.at) {t : ℕ} (et : t ≡ level_of (taking free) g.levels (x / W)) where
-      word_else : get_or (onto W free b g) x 0 ≡ choose t (get_or b x 0) (level_page W (level_below (taking free) g.below (t - 1)) (x % W))
-      word_else = rw (onto_set, et) (
-          get_or-set_other (performed b grown_stores) g.at x g.root 0 away
-          ∙ levels_word W (taking free) pos b (λ i. level_page W (level_below (taking free) g.below i)) x on g.levels
-          )
+    module _ (away : x ≢ g.at) where
+      word_else : get_or (onto W free b g) x 0 ≡ get_or (performed b grown_stores) x 0
+      word_else = rw onto_set (get_or-set_other (performed b grown_stores) g.at x g.root 0 away)
 
       -- the board's own
-      pub word_own : t ≡ 0 → get_or b x 0 ≡ get_or (onto W free b g) x 0
-      unfolding choose
-      word_own z = sym (rw z at word_else)
+      pub word_own : ((i : ℕ) → i < g.levels → taking free i ≢ x / W) → get_or b x 0 ≡ get_or (onto W free b g) x 0
+      word_own none = sym (word_else ∙ levels_none W (taking free) b (λ i. level_page W (level_below (taking free) g.below i)) x g.levels none)
 
       -- a level's
-      level_some : t ≢ 0 → get_or (onto W free b g) x 0 ≡ level_page W (level_below (taking free) g.below (t - 1)) (x % W)
-      unfolding choose
-      level_some some = word_else ∙ chosen t some
-        where
-          chosen : (t : ℕ) → t ≢ 0 → choose t (get_or b x 0) (level_page W (level_below (taking free) g.below (t - 1)) (x % W)) ≡ level_page W (level_below (taking free) g.below (t - 1)) (x % W)
-          chosen zero n = absurd (n refl)
-          chosen (suc t) n = refl
+      module _ (pos : 0 < W) {i : ℕ} (l : (i < g.levels) × (taking free i ≡ x / W) × ((j : ℕ) → i < j → j < g.levels → taking free j ≢ x / W)) where
+        level_word : get_or (onto W free b g) x 0 ≡ level_page W (level_below (taking free) g.below i) (x % W)
+        level_word = word_else ∙ levels_last W (taking free) pos b (λ i. level_page W (level_below (taking free) g.below i)) x on g.levels i l.0 l.1 l.2
 
-      pub word_rest : t ≢ 0 → x % W ≢ 0 → 0 ≡ get_or (onto W free b g) x 0
-      unfolding level_page
-      word_rest some n = sym (level_some some ∙ rest (x % W) n)
-        where
-          rest : (j : ℕ) → j ≢ 0 → level_page W (level_below (taking free) g.below (t - 1)) j ≡ 0
-          rest zero n = absurd (n refl)
-          rest (suc j) n = refl
+        pub word_rest : x % W ≢ 0 → 0 ≡ get_or (onto W free b g) x 0
+        unfolding level_page
+        word_rest n = sym (level_word ∙ rest (x % W) n)
+          where
+            rest : (j : ℕ) → j ≢ 0 → level_page W (level_below (taking free) g.below i) j ≡ 0
+            rest zero n = absurd (n refl)
+            rest (suc j) n = refl
 
-      pub word_pointer : t ≢ 0 → x % W ≡ 0 → W * level_below (taking free) g.below (t - 1) ≡ get_or (onto W free b g) x 0
-      unfolding level_page
-      word_pointer some z = sym (level_some some ∙ rw z)
+        pub word_pointer : x % W ≡ 0 → W * level_below (taking free) g.below i ≡ get_or (onto W free b g) x 0
+        unfolding level_page
+        word_pointer z = sym (level_word ∙ rw z)
 
 -- the pointer to a level is a word
 pub below_small : {b : ℕ} {free : List ℕ} {v : ℕ} (k t : ℕ) → Width b → Blocks free → 2 ^ b * k < 2 ^ 64 → v ≡ level_below (taking free) k t → 2 ^ b * v < 2 ^ 64

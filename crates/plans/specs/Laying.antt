@@ -1,6 +1,6 @@
 -- What functions leave in a plan.
+use Rattle.model.specs.Answers.{Answer}
 use Rattle.std.specs.Prelude.{◌≡◌, List, [], ◌∷◌, ℕ, zero, suc, ◌+◌, ◌*◌, length, get_or}
-use Rattle.model.specs.declared.Answer.{Answer}
 use Rattle.model.specs.Lists.{tabulate}
 use Rattle.model.specs.Store.{Store, store, barrier, laid}
 use Rattle.model.specs.Plan.{Plan, pairs}

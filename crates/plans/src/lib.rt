@@ -1,15 +1,15 @@
 // Plans: pairs of address and value in a lent slice. A pair off the slice is not stored, so a planner that is run on an empty slice only counts.
 #![tactic(auto)]
 
-ghost use Rattle.std.specs.Prelude.{◌≡◌, [], ◌∷◌, ◌-◌, ◌^◌, ◌≤◌, ◌<◌, get_or};
+ghost use Rattle.std.specs.Prelude.{◌≡◌, ◌≢◌, ℕ, [], ◌∷◌, ◌-◌, ◌^◌, ◌≤◌, ◌<◌, MatchOption, get_or};
 ghost use Rattle.model.specs.Tree.{cell, link};
 ghost use Rattle.model.specs.Store.{store, barrier, laid};
 ghost use Rattle.model.specs.Change.{level_below};
-ghost use Rattle.words.specs.Width.{Width};
 ghost use Rattle.plans.specs.Laying.{block_stores, closing, Laid};
-ghost use Rattle.plans.specs.Onto.{taking, level_of, onto, NotGrown, Pointers};
+ghost use Rattle.plans.specs.Onto.{taking, onto, NotGrown, Pointers};
 
-use words::{block_of, low_of, put, start_of, width, word};
+use std::marker::PhantomData;
+use words::{BlockSize, block_of, low_of, put, start_of, width, word};
 
 // Lays a pair at place p. The last word of a slice of odd length is half a pair's place.
 pub fn pair(plan: &mut [u64], p: u64, at: u64, value: u64)
@@ -34,17 +34,15 @@ pub fn barrier(plan: &mut [u64], p: u64)
 }
 
 // Lays the stores of block k, in word order, from place p on: the words of a page.
-pub fn block(bits: u64, plan: &mut [u64], p: u64, k: u64, page: &[u64])
-    requires { Width bits × (k < 2 ^ 54) }
-    ensures { plan.new ≡ laid plan.old p (block_stores (2 ^ bits) k page.now) }
+pub fn block<B: BlockSize>(plan: &mut [u64], p: u64, k: u64, page: &[u64])
+    requires { k < 2 ^ 54 }
+    ensures { plan.new ≡ laid plan.old p (block_stores (2 ^ B.BITS) k page.now) }
 {
     if p < plan.len() as u64 {
-        let w = width(bits);
-        let to = start_of(bits, k);
-        let mut j = 0;
-        while j < w {
+        let w = width::<B>();
+        let to = start_of::<B>(k);
+        for j in 0..w {
             pair(plan, p + j, to + j, word(page, j));
-            j += 1;
         }
     }
 }
@@ -101,64 +99,66 @@ pub fn level_below(free: &[u64], k: u64, t: u64) -> u64
     if t == 0 { k } else { word(free, t - 1) }
 }
 
-// The last of t levels whose block is k, counted from 1; 0 where there is none.
-fn level_of(free: &[u64], t: u64, k: u64) -> u64
-    ensures { result ≡ level_of (taking free.now) t k }
+// The last of the first t levels whose block is k.
+fn level_of(free: &[u64], t: u64, k: u64) -> Option<u64>
+    ensures { MatchOption result ((i : ℕ) → i < t → get_or free.now i 0 ≢ k)
+        (λ i. (i < t) × (get_or free.now i 0 ≡ k) × ((j : ℕ) → i < j → j < t → get_or free.now j 0 ≢ k)) }
 {
-    let mut i = t;
-    while i != 0 {
-        if word(free, i - 1) == k {
-            return i;
+    (0..t).rev().find(|&i| word(free, i) == k)
+}
+
+// What a plan reads and what it may take: a board with the growth `grown` performed, and a table that lists the free blocks.
+#[derive(Drop)]
+pub struct View<'a, B: BlockSize> {
+    pub board: &'a [u64],
+    pub free: &'a [u64],
+    pub grown: Grown,
+    pub size: PhantomData<B>,
+    ghost pointers: { Pointers B.BITS free.now grown },
+}
+
+impl<B: BlockSize> View<'_, B> {
+    // The word at an index of the board with growth performed.
+    pub fn word(&self, at: u64) -> u64
+        ensures { result ≡ get_or (onto (2 ^ B.BITS) self.now.free.now self.now.board.now self.now.grown) at 0 }
+    {
+        if self.board.len() as u64 <= at {
+            return 0;
         }
-        i -= 1;
+        if at == self.grown.at {
+            return self.grown.root;
+        }
+        let Some(t) = level_of(self.free, self.grown.levels, block_of::<B>(at)) else {
+            return word(self.board, at);
+        };
+        if low_of::<B>(at) != 0 {
+            return 0;
+        }
+        start_of::<B>(level_below(self.free, self.grown.below, t))
     }
-    0
-}
 
-// The word at an index of the board with growth performed.
-pub fn word_on(bits: u64, board: &[u64], grown: Grown, free: &[u64], at: u64) -> u64
-    requires { Pointers bits free.now grown }
-    ensures { result ≡ get_or (onto (2 ^ bits) free.now board.now grown) at 0 }
-{
-    if board.len() as u64 <= at {
-        return 0;
+    // Word j of block k there.
+    pub fn cell(&self, k: u64, j: u64) -> u64
+        ensures { result ≡ cell (2 ^ B.BITS) (onto (2 ^ B.BITS) self.now.free.now self.now.board.now self.now.grown) k j }
+    {
+        let n = self.board.len() as u64;
+        if block_of::<B>(n) < k {
+            return 0;
+        }
+        let start = start_of::<B>(k);
+        if n - start <= j {
+            return 0;
+        }
+        self.word(start + j)
     }
-    if at == grown.at {
-        return grown.root;
-    }
-    let t = level_of(free, grown.levels, block_of(bits, at));
-    if t == 0 {
-        return word(board, at);
-    }
-    if low_of(bits, at) != 0 {
-        return 0;
-    }
-    start_of(bits, level_below(free, grown.below, t - 1))
-}
 
-// Word j of block k there.
-pub fn cell_on(bits: u64, board: &[u64], grown: Grown, free: &[u64], k: u64, j: u64) -> u64
-    requires { Pointers bits free.now grown }
-    ensures { result ≡ cell (2 ^ bits) (onto (2 ^ bits) free.now board.now grown) k j }
-{
-    let n = board.len() as u64;
-    if block_of(bits, n) < k {
-        return 0;
+    // The same where k may be null.
+    pub fn link(&self, k: u64, j: u64) -> u64
+        ensures { result ≡ link (2 ^ B.BITS) (onto (2 ^ B.BITS) self.now.free.now self.now.board.now self.now.grown) k j }
+    {
+        if k == 0 {
+            return 0;
+        }
+        self.cell(k, j)
     }
-    let start = start_of(bits, k);
-    if n - start <= j {
-        return 0;
-    }
-    word_on(bits, board, grown, free, start + j)
-}
-
-// The same where k may be null.
-pub fn link_on(bits: u64, board: &[u64], grown: Grown, free: &[u64], k: u64, j: u64) -> u64
-    requires { Pointers bits free.now grown }
-    ensures { result ≡ link (2 ^ bits) (onto (2 ^ bits) free.now board.now grown) k j }
-{
-    if k == 0 {
-        return 0;
-    }
-    cell_on(bits, board, grown, free, k, j)
 }

@@ -9,33 +9,34 @@ ghost use Rattle.model.specs.Calls.{check_answer, free_count_answer, size_answer
 ghost use Rattle.forms.specs.Results.{WordsRead, WordsPlan, WordsPerform};
 
 use answers::signed;
+use kinds::Published;
 
 #[unsafe(no_mangle)]
 pub extern "C" fn probe_check(board: &[u64]) -> i64
     ensures { result ≡ signed (check_answer published board.now) }
 {
-    signed(reading::published_check(board))
+    signed(reading::check::<Published>(board))
 }
 
 #[unsafe(no_mangle)]
 pub extern "C" fn probe_free_count(board: &[u64]) -> i64
     ensures { result ≡ signed (free_count_answer published board.now) }
 {
-    signed(reading::published_free_count(board))
+    signed(reading::free_count::<Published>(board))
 }
 
 #[unsafe(no_mangle)]
 pub extern "C" fn probe_size(board: &[u64], file: u64) -> i64
     ensures { result ≡ signed (size_answer published board.now file) }
 {
-    signed(reading::published_size(board, file))
+    signed(reading::size::<Published>(board, file))
 }
 
 #[unsafe(no_mangle)]
 pub extern "C" fn probe_read(board: &[u64], file: u64, offset: u64, out: &mut [u8]) -> i64
     ensures { WordsRead published board.now file offset out.old result out.new }
 {
-    signed(reading::published_read(board, file, offset, out))
+    signed(reading::read::<Published>(board, file, offset, out))
 }
 
 #[unsafe(no_mangle)]
@@ -48,26 +49,26 @@ pub extern "C" fn probe_write(
 ) -> i64
     ensures { WordsPlan (write published board.now file offset bytes.now plan.old) result plan.new }
 {
-    signed(changing::published_write(board, file, offset, bytes, plan))
+    signed(changing::write::<Published>(board, file, offset, bytes, plan))
 }
 
 #[unsafe(no_mangle)]
 pub extern "C" fn probe_set_length(board: &[u64], file: u64, length: u64, plan: &mut [u64]) -> i64
     ensures { WordsPlan (set_length published board.now file length plan.old) result plan.new }
 {
-    signed(changing::published_set_length(board, file, length, plan))
+    signed(changing::set_length::<Published>(board, file, length, plan))
 }
 
 #[unsafe(no_mangle)]
 pub extern "C" fn probe_format(board: &[u64], plan: &mut [u64]) -> i64
     ensures { WordsPlan (format published board.now plan.old) result plan.new }
 {
-    signed(formatting::published_format(board, plan))
+    signed(formatting::format::<Published>(board, plan))
 }
 
 #[unsafe(no_mangle)]
 pub extern "C" fn probe_perform(board: &mut [u64], plan: &[u64], pairs: u64) -> i64
     ensures { WordsPerform published board.old plan.now pairs result board.new }
 {
-    signed(performing::published_perform(board, plan, pairs))
+    signed(performing::perform::<Published>(board, plan, pairs))
 }

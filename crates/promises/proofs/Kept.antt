@@ -1,4 +1,5 @@
 -- The promises, from the contracts and the laws.
+use Rattle.std.specs.Prelude.{Ok}
 use mathlib.Core.Path.{◌≡◌, sym, ap, ◌∙◌}
 use mathlib.Core.Logic.{inl, inr}
 use mathlib.Core.Bool.{Bool, ◌&&◌, ◌||◌}
@@ -9,15 +10,13 @@ use lib.ListN.{length, take, length-take}
 use lib.Seq.{take-take}
 use lib.Dec.{T, ltb}
 use borrow.Author.Tests.{le-ltb, lt-ltb}
-use Rattle.model.specs.declared.Answer.{Answer}
-use Rattle.model.specs.declared.Answer.TheVariants.{Done}
 use Rattle.model.specs.Lists.{all, cons_if, filter}
 use Rattle.model.specs.Layout.{Layout, Fits, layout_of}
 use Rattle.model.specs.Board.{in_range, accepted, word_count_sound, contents}
 use Rattle.model.specs.Store.{Store, is_barrier, stores, performed, paired}
 use Rattle.model.specs.Plan.{pairs}
 use Rattle.model.specs.Format.{format_plan}
-use Rattle.model.specs.Answers.{answered, unless_refused, counted}
+use Rattle.model.specs.Answers.{answered, unless_refused, counted, Answer}
 use Rattle.model.specs.Calls.{Planned, word_count_fault, lowest, write, perform_faults, perform_answer, perform_board, format}
 use Rattle.model.specs.Cut.{Change, writing, length_to, file_of, called_from, called, plan_from, plan_of, after, last_arrived}
 use Rattle.model.specs.Claims.{CutSafe, Empty}
@@ -51,13 +50,13 @@ pairs_all p (s ∷ ss) t = elim (either (is_barrier s)) [
 
 module _ (g : Layout) (b slice : List ℕ) (k : ℕ) (counts : T (word_count_sound g b)) (there : k ≤ length (paired slice))
     (on : T (all (λ s. ltb s.at (length b)) (stores (take k (paired slice))))) where
-  performs : perform_answer g b slice k ≡ Done k
+  performs : perform_answer g b slice k ≡ Ok k
   unfolding perform_answer perform_faults word_count_fault answered
   performs =
       let room : 2 * k ≤ length slice = omega (arith, length_paired slice) in
       rw (is_true (word_count_sound g b) counts, le-ltb (length slice) (2 * k) room, is_true (all (λ s. ltb s.at (length b) || is_barrier s) (take k (paired slice))) (pairs_all (λ s. ltb s.at (length b)) (take k (paired slice)) on))
 
-  pub performed_whole : (q : Answer) (b' : List ℕ) → PerformResult g b slice k q b' → (q ≡ Done k) × (b' ≡ performed b (stores (take k (paired slice))))
+  pub performed_whole : (q : Answer) (b' : List ℕ) → PerformResult g b slice k q b' → (q ≡ Ok k) × (b' ≡ performed b (stores (take k (paired slice))))
   unfolding perform_board unless_refused
   performed_whole q b' w = (w.answer ∙ performs, w.board ∙ rw performs)
 
@@ -89,7 +88,7 @@ module _ (g : Layout) (fit : Fits g) (b : List ℕ) (t : T (accepted g b)) (c : 
   first_pairs k l = sym (take-take k (counted p.answer) (paired p.slice) l)
 
   performed_part : (k : ℕ) → k ≤ counted p.answer → (q : Answer) (b' : List ℕ) → PerformResult g b p.slice k q b'
-      → (q ≡ Done k) × CutSafe g b b' (file_of c) (after c p.answer (contents g b (file_of c))) (plan_of p) (last_arrived (plan_of p) (cut_after k (plan_of p)))
+      → (q ≡ Ok k) × CutSafe g b b' (file_of c) (after c p.answer (contents g b (file_of c))) (plan_of p) (last_arrived (plan_of p) (cut_after k (plan_of p)))
   performed_part k l q b' w =
       let on = part_all (λ s. ltb s.at (length b)) k (plan_of p) stores_on in
       let done = performed_whole g b p.slice k (accepted_parts g b t).words (omega (arith, pairs_there)) (rw (first_pairs k l) on) q b' w in (
@@ -123,7 +122,7 @@ module _ (g : Layout) (fit : Fits g) (b : List ℕ) (ok : T (word_count_sound g 
   f = format g b slice
 
   -- where it is not refused, its plan performed whole leaves 32 empty files
-  format_whole : (n : ℕ) → f.answer ≡ Done n → (q : Answer) (b' : List ℕ) → PerformResult g b f.slice n q b' → (q ≡ Done n) × Empty g b'
+  format_whole : (n : ℕ) → f.answer ≡ Ok n → (q : Answer) (b' : List ℕ) → PerformResult g b f.slice n q b' → (q ≡ Ok n) × Empty g b'
   unfolding format plan_of counted
   format_whole n e q b' w = elim (planned_either (word_count_fault g b) (pairs (format_plan g b)) slice) [
     | inl d ↦

@@ -1,15 +1,13 @@
 -- What a caller has who knows the contracts alone, of each kind of board. `r` is what the call answered and `slice'` the plan slice as it left it; both
 -- stand in the contract of the call, PlanResult, and what perform does with them in PerformResult.
-use Rattle.std.specs.Prelude.{◌≡◌, ◌≢◌, ◌⊎◌, Bool, true, false, cond, List, [], ◌∷◌, ℕ, zero, suc, ◌*◌, ◌≤◌, length, T}
-use Rattle.model.specs.declared.Answer.{Answer}
-use Rattle.model.specs.declared.Answer.TheVariants.{Done, Refused}
+use Rattle.std.specs.Prelude.{◌≡◌, ◌≢◌, ◌⊎◌, Bool, true, false, cond, List, [], ◌∷◌, ℕ, zero, suc, ◌*◌, ◌≤◌, length, T, Ok, Err}
 use Rattle.model.specs.declared.Fault.TheVariants.{Trailer, PlanLength}
 use Rattle.model.specs.Words.{Bytes}
-use Rattle.model.specs.declared.Kind.{Kind}
+use Rattle.model.specs.Layout.{Kind}
 use Rattle.model.specs.Layout.{Layout, house, layout_of}
 use Rattle.model.specs.Board.{trailer, size, contents, accepted, word_count_sound}
 use Rattle.model.specs.Store.{Store, is_barrier}
-use Rattle.model.specs.Answers.{counted}
+use Rattle.model.specs.Answers.{counted, Answer}
 use Rattle.model.specs.Calls.{check_answer, write, set_length, format}
 use Rattle.model.specs.Cut.{writing, length_to, plan_of, after, Cut, Names, standing, last_arrived}
 use Rattle.model.specs.Claims.{CutSafe, Altered, Empty}
@@ -43,26 +41,26 @@ pub record Kept (g : Layout) (b : List ℕ) (f : ℕ) (wanted : List ℕ) (r : A
   pub cut : (x : Cut) → let ss : List Store = plan_left r slice' in Names ss x → CutSafe g b (standing ss x b) f wanted ss (last_arrived ss x)
   -- performed by `perform` up to any pair, it leaves the board of such a cut
   pub part : (k : ℕ) → k ≤ counted r → (q : Answer) (b' : List ℕ) → PerformResult g b slice' k q b'
-      → let ss : List Store = plan_left r slice' in (q ≡ Done k) × CutSafe g b b' f wanted ss (last_arrived ss (cut_after k ss))
+      → let ss : List Store = plan_left r slice' in (q ≡ Ok k) × CutSafe g b b' f wanted ss (last_arrived ss (cut_after k ss))
   -- performed whole by `perform`, which does not refuse it, the file reads as after and no other file is changed
-  pub whole : (q : Answer) (b' : List ℕ) → PerformResult g b slice' (counted r) q b' → (q ≡ Done (counted r)) × Altered g b b' f wanted
+  pub whole : (q : Answer) (b' : List ℕ) → PerformResult g b slice' (counted r) q b' → (q ≡ Ok (counted r)) × Altered g b b' f wanted
 
--- `write`, `published_write`
+-- `write`
 abbrev pub WritePromise : Type 0
 WritePromise = (k : Kind) → let g : Layout = layout_of k in (b : List ℕ) → T (accepted g b) → (f o : ℕ) (bytes : Bytes) (slice : List ℕ) (r : Answer) (slice' : List ℕ)
     → PlanResult (write g b f o bytes.values slice) r slice' → Kept g b f (after (writing f o bytes) r (contents g b f)) r slice'
 
--- `set_length`, `published_set_length`
+-- `set_length`
 abbrev pub SetLengthPromise : Type 0
 SetLengthPromise = (k : Kind) → let g : Layout = layout_of k in (b : List ℕ) → T (accepted g b) → (f n : ℕ) (slice : List ℕ) (r : Answer) (slice' : List ℕ)
     → PlanResult (set_length g b f n slice) r slice' → Kept g b f (after (length_to f n) r (contents g b f)) r slice'
 
--- `format`, `published_format`, on any board whose word count is sound: cut anywhere it leaves the old board, or one that check refuses 2, or 32 empty files; performed whole, where it
+-- `format`, on any board whose word count is sound: cut anywhere it leaves the old board, or one that check refuses 2, or 32 empty files; performed whole, where it
 -- was not refused, the last
 pub record Formats (g : Layout) (b : List ℕ) (r : Answer) (slice' : List ℕ) : Type 0 where
   pub cut : (x : Cut) → let ss : List Store = plan_left r slice' in let b' : List ℕ = standing ss x b in
-      Names ss x → (b' ≡ b) ⊎ (((trailer g b' 0 ≡ 0) × (check_answer g b' ≡ Refused Trailer)) ⊎ Empty g b')
-  pub whole : (n : ℕ) → r ≡ Done n → (q : Answer) (b' : List ℕ) → PerformResult g b slice' n q b' → (q ≡ Done n) × Empty g b'
+      Names ss x → (b' ≡ b) ⊎ (((trailer g b' 0 ≡ 0) × (check_answer g b' ≡ Err Trailer)) ⊎ Empty g b')
+  pub whole : (n : ℕ) → r ≡ Ok n → (q : Answer) (b' : List ℕ) → PerformResult g b slice' n q b' → (q ≡ Ok n) × Empty g b'
 
 abbrev pub FormatPromise : Type 0
 FormatPromise = (k : Kind) → let g : Layout = layout_of k in (b : List ℕ) → T (word_count_sound g b) → (slice : List ℕ) (r : Answer) (slice' : List ℕ)
@@ -74,11 +72,11 @@ abbrev pub StoresPromise : Type 0
 StoresPromise = (b : List ℕ) (f o : ℕ) (bytes : Bytes) (slice : List ℕ) (r : Answer) (slice' : List ℕ) → PlanResult (write house b f o bytes.values slice) r slice'
     → let l : ℕ = length bytes.values in
     (store_count (plan_left r slice') ≤ most_stores l) × (length (plan_left r slice') ≤ most_stores l) × (o ≤ size house b f → store_count (plan_left r slice') ≤ sharp_stores l)
-    × (2 * most_stores l ≤ length slice → r ≢ Refused PlanLength)
+    × (2 * most_stores l ≤ length slice → r ≢ Err PlanLength)
 
 -- with a plan slice of twice the board's words no call that plans was refused 8: write and length change, and format
 abbrev pub RoomPromise : Type 0
 RoomPromise = (k : Kind) → let g : Layout = layout_of k in (b slice : List ℕ) → 2 * length b ≤ length slice → (r : Answer) (slice' : List ℕ)
-    → ((f o : ℕ) (bytes : Bytes) → PlanResult (write g b f o bytes.values slice) r slice' → r ≢ Refused PlanLength)
-    × ((f n : ℕ) → PlanResult (set_length g b f n slice) r slice' → r ≢ Refused PlanLength)
-    × (PlanResult (format g b slice) r slice' → r ≢ Refused PlanLength)
+    → ((f o : ℕ) (bytes : Bytes) → PlanResult (write g b f o bytes.values slice) r slice' → r ≢ Err PlanLength)
+    × ((f n : ℕ) → PlanResult (set_length g b f n slice) r slice' → r ≢ Err PlanLength)
+    × (PlanResult (format g b slice) r slice' → r ≢ Err PlanLength)

@@ -1,4 +1,5 @@
 -- No answer is too great for a signed number, nor is the number of a block where a walk ends.
+use Rattle.std.specs.Prelude.{Ok, Err, Some}
 use mathlib.Core.Path.{◌≡◌, refl}
 use mathlib.Core.Logic.{inl, inr}
 use mathlib.Core.Bool.{Bool, true, false, not, cond}
@@ -7,16 +8,13 @@ use Prim.Native.Nat.{ℕ, zero, suc, ◌+◌, ◌-◌, ◌*◌, ◌/◌, ◌%◌
 use native.Mathlib.Omega.{arith}
 use lib.ListN.{length, get_or}
 use borrow.Author.Tests.{lt-ltb, le-ltb}
-use Rattle.model.specs.declared.Answer.{Answer}
-use Rattle.model.specs.declared.Answer.TheVariants.{Done, Refused}
-use Rattle.model.specs.declared.WalkEnd.TheVariants.{Block}
 use Rattle.model.specs.Lists.{cons_if, pick_from, member}
-use Rattle.model.specs.declared.Kind.{Kind}
-use Rattle.model.specs.declared.Kind.TheVariants.{House, Published}
+use Rattle.model.specs.Layout.{Kind}
+use Rattle.model.specs.Layout.{House, Published}
 use Rattle.model.specs.Layout.{house, layout_of, files}
 use Rattle.model.specs.Tree.{span, cell, link, walk}
 use Rattle.model.specs.Board.{root_walk, greatest, block_count, size, linked_leaf, linked_word, walk_to, live_blocks, free}
-use Rattle.model.specs.Answers.{Faults, answered, counted}
+use Rattle.model.specs.Answers.{Faults, answered, counted, Answer}
 use Rattle.model.specs.Calls.{board_faults, file_faults, check_answer, free_count_answer, size_answer, read_count, read_answer}
 use Rattle.model.proofs.Cases.{split}
 use Rattle.model.proofs.Descent.{hole≢block, ending_is}
@@ -32,7 +30,7 @@ unfolding answered counted
 counted_most [] n = omega arith
 counted_most (t ∷ ts) n = by t.1 (counted_most ts n)
   where
-    by : (s : Bool) → counted (answered ts n) ≤ n → counted (cond s (Refused t.0) (answered ts n)) ≤ n
+    by : (s : Bool) → counted (answered ts n) ≤ n → counted (cond s (Err t.0) (answered ts n)) ≤ n
     by true h = omega arith
     by false h = h
 
@@ -42,8 +40,8 @@ module _ (k : Kind) (b : List ℕ) (f : ℕ) where
 
   size_counted : (r : Answer) → r ≡ answered faults 0 → counted (size_answer (layout_of k) b f) ≤ greatest (layout_of k)
   unfolding size_answer counted
-  size_counted (Refused x) e = rw (same_refused faults 0 (size (layout_of k) b f) e refl) (omega arith)
-  size_counted (Done v) e = let t = file_found (layout_of k) b f e refl in
+  size_counted (Err x) e = rw (same_refused faults 0 (size (layout_of k) b f) e refl) (omega arith)
+  size_counted (Ok v) e = let t = file_found (layout_of k) b f e refl in
       rw (same_done faults 0 (size (layout_of k) b f) e refl) ((facts (layout_of k) (fits k) b t.0).most f t.1)
 
 -- no more are picked than there are
@@ -92,20 +90,20 @@ module _ (b : List ℕ) (words : (i : ℕ) → get_or b i 0 < 2 ^ 64) where
   link_small zero j = omega arith
   link_small (suc k) j = omega (arith, words (8 * suc k + j))
 
-  walk_most : (h k n i q : ℕ) → k < 2 ^ 61 → walk 8 b h k n i ≡ Block q → q < 2 ^ 61
+  walk_most : (h k n i q : ℕ) → k < 2 ^ 61 → walk 8 b h k n i ≡ Some q → q < 2 ^ 61
   unfolding walk
   walk_most zero k n i q l e = rw (ending_is k n q e).1 l
   walk_most (suc h) k n i q l e = let j : ℕ = i / span 8 h in
       walk_most h (link 8 b k j / 8) (n - j * span 8 h) (i % span 8 h) q (link_small k j) e
 
-  root_walk_most : (r n i q : ℕ) → r / 8 < 2 ^ 61 → root_walk 8 b r n i ≡ Block q → q < 2 ^ 61
+  root_walk_most : (r n i q : ℕ) → r / 8 < 2 ^ 61 → root_walk 8 b r n i ≡ Some q → q < 2 ^ 61
   unfolding root_walk
   root_walk_most r n i q l e = elim (split (span 8 (r % 8)) i) [
     | inl past ↦ absurd (hole≢block q (rw (le-ltb i (span 8 (r % 8)) past) at e))
     | inr u ↦ walk_most (r % 8) (r / 8) n i q l (rw (lt-ltb i (span 8 (r % 8)) u) at e)
   ]
 
-  pub walk_small : (f i q : ℕ) → walk_to house b f i ≡ Block q → q < 2 ^ 63
+  pub walk_small : (f i q : ℕ) → walk_to house b f i ≡ Some q → q < 2 ^ 63
   unfolding walk_to linked_word
   walk_small f i q e = elim (split (files house) f) [
     | inl none ↦ absurd (hole≢block q (rw (le-ltb f (files house) none) at e))

@@ -1,6 +1,6 @@
 -- What a read answers and leaves in its buffer.
+use Rattle.model.specs.Answers.{Answer}
 use Rattle.std.specs.Prelude.{◌≡◌, List, ℕ}
-use Rattle.model.specs.declared.Answer.{Answer}
 use Rattle.model.specs.Layout.{Layout}
 use Rattle.model.specs.Calls.{read_answer, read_buffer}
 

@@ -11,6 +11,7 @@ use Rattle.model.specs.Fresh.{build}
 use Rattle.model.specs.Change.{descend}
 use Rattle.model.proofs.Spans.{Child, child}
 use Rattle.model.proofs.Descent.{descend_on, descend_stop}
+use Rattle.trees.specs.declared.Tree.{Tree}
 use Rattle.shadows.specs.declared.Spot.{Spot}
 use Rattle.shadows.specs.Planning.{Descended}
 
@@ -63,9 +64,11 @@ module _ {W : ℕ} {c : List ℕ} {h k n o : ℕ} {new : List ℕ} {a : ℕ} whe
     at_wide l = record { is = λ fresh t. wide_stop W fresh c new t h k n o a f g (rw em at l); low = omega arith }
 
     -- one pointer p followed
-    pub down : {p d left x : ℕ} {r : Spot} → o % m + length new ≤ m → p ≡ cell W c k (o / m) → d ≡ p / W → left ≡ n - o / m * m → x ≡ W * k + o / m
-        → Descended W c (h - 1) d left (o % m) new x r → Descended W c h k n o new a r
-    down l ep ed el ex d = record {
-      is = λ fresh t. go_on W fresh c new t h k n o a f g (rw em at l) ∙ rw (ex, el, ed, ep, em) at (d.is fresh t);
-      low = omega (arith, d.low);
-    }
+    pub down : {p x : ℕ} {u : Tree} {r : Spot} → o % m + length new ≤ m → p ≡ cell W c k (o / m) → u ≡ record { height = h - 1; block = p / W; left = n - o / m * m } → x ≡ W * k + o / m
+        → Descended W c u.height u.block u.left (o % m) new x r → Descended W c h k n o new a r
+    down {p} {x} {u} {r} l ep eu ex d =
+        let below : Descended W c (h - 1) (p / W) (n - o / m * m) (o % m) new x r = rw eu at d in
+        record {
+          is = λ fresh t. go_on W fresh c new t h k n o a f g (rw em at l) ∙ rw (ex, ep, em) at (below.is fresh t);
+          low = omega (arith, below.low);
+        }

@@ -1,7 +1,7 @@
 -- What the ways of planning are asked on, and where a descent ends. The board is read with growth performed: c is the board then.
 use Rattle.std.specs.Prelude.{◌≡◌, List, ℕ, ◌+◌, ◌*◌, ◌%◌, ◌^◌, ◌≤◌, ◌<◌, length}
 use Rattle.model.specs.declared.Inode.{Inode}
-use Rattle.model.specs.declared.Kind.{Kind}
+use Rattle.model.specs.Layout.{Kind}
 use Rattle.model.specs.Layout.{layout_of}
 use Rattle.model.specs.Tree.{span}
 use Rattle.model.specs.Board.{greatest}
@@ -9,7 +9,6 @@ use Rattle.model.specs.Fresh.{build}
 use Rattle.model.specs.Change.{descend}
 use Rattle.kinds.specs.Figures.{Bits}
 use Rattle.plans.specs.declared.Grown.{Grown}
-use Rattle.plans.specs.Onto.{Pointers}
 use Rattle.shadows.specs.declared.Spot.{Spot}
 use Rattle.shadows.specs.declared.Target.{Target}
 
@@ -25,9 +24,8 @@ pub record Pages (kind : Kind) (bits : ℕ) (pages : List ℕ) : Type 0 where
 
 -- A write of `new` at o that stays within the bounds, to the file with inode n, whose tree spans it. The size stands in the word after the root;
 -- `scratch` has room for the pages
-pub record Ready (kind : Kind) (bits : ℕ) (n : Inode) (o : ℕ) (new free scratch : List ℕ) (grown : Grown) (base taken : ℕ) : Type 0 where
+pub record Ready (kind : Kind) (bits : ℕ) (n : Inode) (o : ℕ) (new scratch : List ℕ) (base taken : ℕ) : Type 0 where
   pub pages : Pages kind bits scratch
-  pub pointers : Pointers bits free grown
   pub some : 0 < length new
   pub end : o + length new ≤ greatest (layout_of kind)
   pub address : n.at + 1 < 2 ^ 64
@@ -36,5 +34,5 @@ pub record Ready (kind : Kind) (bits : ℕ) (n : Inode) (o : ℕ) (new free scra
   pub place : base + 2 ^ bits * taken ≤ 2 ^ 16
 
 -- the same of a target, with growth's `base` and the blocks that growth takes
-abbrev pub ReadyFor : ℕ → Target → List ℕ → List ℕ → List ℕ → Grown → Type 0
-ReadyFor bits t new free scratch grown = Ready t.kind bits t.inode t.offset new free scratch grown grown.base grown.levels
+abbrev pub ReadyFor : Kind → ℕ → Target → List ℕ → List ℕ → Grown → Type 0
+ReadyFor kind bits t new scratch grown = Ready kind bits t.inode t.offset new scratch grown.base grown.levels

@@ -1,5 +1,5 @@
 -- The free blocks listed at the front of a table.
-use mathlib.Core.Path.{◌≡◌, refl, sym, ap, ◌∙◌}
+use mathlib.Core.Path.{◌≡◌, sym, ap, ◌∙◌}
 use mathlib.Core.Bool.{Bool, true, false}
 use mathlib.Core.List.{List, ◌∷◌, ◌++◌, append-nil}
 use Prim.Native.Nat.{ℕ, ◌+◌, ◌-◌, ◌≤◌, ◌<◌}
@@ -24,9 +24,6 @@ pub record ListedBelow (m : List ℕ) (top : ℕ) (table₀ : List ℕ) (k : ℕ
   pub rest : drop count table ≡ drop count table₀
 
 module _ {m : List ℕ} {top : ℕ} {table₀ : List ℕ} where
-  pub start : ListedBelow m top table₀ 1 table₀ 0
-  start = record { fewer = omega arith; within = omega arith; same = refl; front = refl; rest = refl }
-
   module _ {k : ℕ} {table : List ℕ} {count : ℕ} (s : ListedBelow m top table₀ k table count) (l : k < top) {r : Bool} (er : r ≡ spare m k) where
     -- a free block is listed
     pub listed : top ≤ length table₀ → r ≡ true → {table' : List ℕ} → table' ≡ set table count k → ListedBelow m top table₀ (k + 1) table' (count + 1)

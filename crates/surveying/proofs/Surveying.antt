@@ -1,4 +1,5 @@
 -- A survey's ways out, and what its marks tell of the free blocks.
+use Rattle.std.specs.Prelude.{Ok, Err}
 use mathlib.Core.Path.{◌≡◌, refl, sym, ◌∙◌}
 use mathlib.Core.Bool.{Bool, true, false, not, cond, ◌&&◌}
 use mathlib.Core.List.{List}
@@ -10,12 +11,10 @@ use lib.Dec.{T, leb, eqb}
 use borrow.Author.Tests.{leb-true}
 use Rattle.model.specs.declared.Fault.{Fault}
 use Rattle.model.specs.declared.Fault.TheVariants.{WordCount, Trailer, Damaged}
-use Rattle.model.specs.declared.Answer.{Answer}
-use Rattle.model.specs.declared.Answer.TheVariants.{Done, Refused}
 use Rattle.model.specs.Lists.{every, pick_from, member, distinct}
 use Rattle.model.specs.Layout.{Layout, files}
 use Rattle.model.specs.Board.{block_count, live_blocks, free, word_count_sound, trailer_sound, inodes_sound, file_sound, trees_sound, accepted}
-use Rattle.model.specs.Answers.{answered}
+use Rattle.model.specs.Answers.{answered, Answer}
 use Rattle.model.specs.Calls.{word_count_fault, board_faults, check_answer}
 use Rattle.model.proofs.Cases.{is_true, and_left, and_right, true_left, true_right}
 use Rattle.model.proofs.Refusals.{not_refused, check_accepts}
@@ -62,27 +61,27 @@ module _ (g : Layout) (pos : 0 < g.words) (few : g.most ≤ 1024) (b : List ℕ)
 
 -- the answer is the first fault's
 answer_shape : (g : Layout) (b : List ℕ) → check_answer g b
-    ≡ cond (not (word_count_sound g b)) (Refused WordCount) (cond (not (trailer_sound g b)) (Refused Trailer) (cond (not (trees_sound g b)) (Refused Damaged) (Done 0)))
+    ≡ cond (not (word_count_sound g b)) (Err WordCount) (cond (not (trailer_sound g b)) (Err Trailer) (cond (not (trees_sound g b)) (Err Damaged) (Ok 0)))
 unfolding check_answer board_faults word_count_fault answered
 answer_shape g b = refl
 
-refused : {g : Layout} {b m : List ℕ} {f : Fault} → Refused f ≡ check_answer g b → Surveyed g b (Refused f) m
+refused : {g : Layout} {b m : List ℕ} {f : Fault} → Err f ≡ check_answer g b → Surveyed g b (Err f) m
 refused q = record { answer = q; marks = λ v z. absurd (not_refused z refl) }
 
 module _ {g : Layout} {b m : List ℕ} where
-  pub miscounted : {w : Bool} → w ≡ word_count_sound g b → w ≡ false → Surveyed g b (Refused WordCount) m
+  pub miscounted : {w : Bool} → w ≡ word_count_sound g b → w ≡ false → Surveyed g b (Err WordCount) m
   miscounted e z = refused (sym (answer_shape g b ∙ rw (← e, z)))
 
   module _ {w : Bool} (ew : w ≡ word_count_sound g b) (zw : w ≡ true) where
-    pub mistrailed : {t : Bool} → t ≡ trailer_sound g b → t ≡ false → Surveyed g b (Refused Trailer) m
+    pub mistrailed : {t : Bool} → t ≡ trailer_sound g b → t ≡ false → Surveyed g b (Err Trailer) m
     mistrailed e z = refused (sym (answer_shape g b ∙ rw (← ew, zw, ← e, z)))
 
     module _ (pos : 0 < g.words) (few : g.most ≤ 1024) {t ok : Bool} {m₀ : List ℕ} (et : t ≡ trailer_sound g b) (zt : t ≡ true) (pre : m₀ ≡ replicate 1024 0)
         (c : Marked (pointers_sound g b) (live_blocks g b) m₀ ok m) where
-      pub damaged : ok ≡ false → Surveyed g b (Refused Damaged) m
+      pub damaged : ok ≡ false → Surveyed g b (Err Damaged) m
       damaged z = refused (sym (answer_shape g b ∙ rw (← ew, zw, ← et, zt, ← found g pos few b (sym ew ∙ zw) (sym et ∙ zt) pre c, z)))
 
-      pub surveyed : ok ≡ true → Surveyed g b (Done 0) m
+      pub surveyed : ok ≡ true → Surveyed g b (Ok 0) m
       surveyed z = record { answer = sym (answer_shape g b ∙ rw (← ew, zw, ← et, zt, ← found g pos few b (sym ew ∙ zw) (sym et ∙ zt) pre c, z)); marks = λ v _. rw pre at (c.left z) }
 
 -- an accepted board
@@ -91,7 +90,7 @@ pub record Sound (g : Layout) (b : List ℕ) : Type 0 where
   pub trailer : trailer_sound g b ≡ true
   pub trees : trees_sound g b ≡ true
 
-pub sound : (g : Layout) (b : List ℕ) (v : ℕ) → check_answer g b ≡ Done v → Sound g b
+pub sound : (g : Layout) (b : List ℕ) (v : ℕ) → check_answer g b ≡ Ok v → Sound g b
 unfolding accepted
 sound g b v e =
     let w : Bool = word_count_sound g b in
@@ -101,7 +100,7 @@ sound g b v e =
     record { words = is_true w (and_left w l (and_left (w && l) s t)); trailer = is_true l (and_right w l (and_left (w && l) s t)); trees = is_true s (and_right (w && l) s t) }
 
 -- the free blocks are those that the marks have free
-pub free_spare : {g : Layout} (pos : 0 < g.words) (few : g.most ≤ 1024) {b m : List ℕ} {r : Answer} (v : ℕ) → Surveyed g b r m → r ≡ Done v → pick_from 1 (block_count g b - 2) (spare m) ≡ free g b
+pub free_spare : {g : Layout} (pos : 0 < g.words) (few : g.most ≤ 1024) {b m : List ℕ} {r : Answer} (v : ℕ) → Surveyed g b r m → r ≡ Ok v → pick_from 1 (block_count g b - 2) (spare m) ≡ free g b
 free_spare {g} pos few {b} v s z =
     let k = sound g b v (sym s.answer ∙ z) in
     rw (s.marks v z) (free_marks g pos few b k.words k.trailer k.trees)

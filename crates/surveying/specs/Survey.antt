@@ -1,7 +1,6 @@
 -- What a survey of a board answers, and the free blocks listed.
-use Rattle.std.specs.Prelude.{◌≡◌, Bool, ◌&&◌, List, ◌++◌, ℕ, ◌-◌, length, get_or, drop, replicate, ltb, eqb}
-use Rattle.model.specs.declared.Answer.{Answer}
-use Rattle.model.specs.declared.Answer.TheVariants.{Done}
+use Rattle.model.specs.Answers.{Answer}
+use Rattle.std.specs.Prelude.{◌≡◌, Bool, ◌&&◌, List, ◌++◌, ℕ, ◌-◌, length, get_or, drop, replicate, ltb, eqb, Ok}
 use Rattle.model.specs.Lists.{every, pick_from}
 use Rattle.model.specs.Layout.{Layout, files}
 use Rattle.model.specs.Board.{block_count, inode_block, live_blocks, inodes_sound, file_sound}
@@ -19,7 +18,7 @@ spare m k = eqb (get_or m k 0) 0
 -- what check answers, and where it is no refusal, the live blocks marked
 pub record Surveyed (g : Layout) (b : List ℕ) (r : Answer) (m : List ℕ) : Type 0 where
   pub answer : r ≡ check_answer g b
-  pub marks : (v : ℕ) → r ≡ Done v → m ≡ marked (replicate 1024 0) (live_blocks g b)
+  pub marks : (v : ℕ) → r ≡ Ok v → m ≡ marked (replicate 1024 0) (live_blocks g b)
 
 -- the blocks that marks have free, of those below top, at the front of a table
 pub record Listed (marks : List ℕ) (top : ℕ) (table : List ℕ) (r : ℕ) (table' : List ℕ) : Type 0 where

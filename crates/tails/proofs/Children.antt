@@ -14,6 +14,7 @@ use Rattle.model.specs.InPlace.{tail_before, tail_words, hooked, in_place}
 use Rattle.model.proofs.Cases.{length_joined}
 use Rattle.model.proofs.Sums.{sum_next}
 use Rattle.model.proofs.InPlaceStores.{empty_stores}
+use Rattle.trees.specs.declared.Tree.{Tree}
 use Rattle.plans.specs.Laying.{Laid}
 use Rattle.plans.proofs.Laying as Laying
 use Rattle.taking.proofs.Tails.{joined_next}
@@ -92,17 +93,18 @@ module _ {W : ℕ} {b : List ℕ} {hook : ℕ → ℕ → ℕ → ℕ} {h k n : 
         let none : kid j ≡ [] = empty_stores W b hook h _ _ (part (span W h) j n new) _ _ (rw (← es, ← ep) e) in
         record { laid = Laying.same_pairs (sym (joined_next j kid ∙ rw none (append-nil (joined j kid)))) l.laid }
 
-    module _ {x d left taken a : ℕ} (ex : x ≡ cell W b k j) (ed : d ≡ x / W) (el : left ≡ n - j * s) (ec : taken ≡ c + tail_before W h n (length new) j) (ea : a ≡ W * k + j) where
-      same : in_place W b hook h d left own taken a ≡ kid_stores W b hook h k n new c j
-      same = rw (ea, ed, ex, el, ep, ec, es)
+    module _ {x taken a : ℕ} {u : Tree} (ex : x ≡ cell W b k j) (eu : u ≡ record { height = h; block = x / W; left = n - j * s })
+        (ec : taken ≡ c + tail_before W h n (length new) j) (ea : a ≡ W * k + j) where
+      same : in_place W b hook u.height u.block u.left own taken a ≡ kid_stores W b hook h k n new c j
+      same = rw (eu, ea, ex, ep, ec, es)
 
       -- something is
-      pub stores_step : {q' : ℕ} {plan'' : List ℕ} → Laid plan' q (in_place W b hook h d left own taken a) plan'' q'
+      pub stores_step : {q' : ℕ} {plan'' : List ℕ} → Laid plan' q (in_place W b hook u.height u.block u.left own taken a) plan'' q'
           → Placed W b hook h k n new c p (j + 1) plan plan'' q'
       stores_step t = record { laid = Laying.same_pairs (sym (joined_next j (kid_stores W b hook h k n new c))) (Laying.more l.laid (Laying.same_pairs same t)) }
 
       -- the stores under child j are among all
-      pub stores_room : j < W → q + length (in_place W b hook h d left own taken a) ≤ p + length (joined W (kid_stores W b hook h k n new c))
+      pub stores_room : j < W → q + length (in_place W b hook u.height u.block u.left own taken a) ≤ p + length (joined W (kid_stores W b hook h k n new c))
       stores_room less =
           let kid : ℕ → List Store = kid_stores W b hook h k n new c in
           rw same (omega (arith, l.laid.next, length_joined j kid, length_joined W kid, sum_next W (λ i. length (kid i)) j less))

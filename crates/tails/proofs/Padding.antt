@@ -17,6 +17,7 @@ use Rattle.model.proofs.Agree.{seen_dead}
 use Rattle.model.proofs.Splice.{splice_in, splice_left, splice_right, length_part}
 use Rattle.model.proofs.Tailed.{zeros_replicate}
 use Rattle.words.specs.Width.{Width}
+use Rattle.trees.specs.declared.Tree.{Tree}
 use Rattle.plans.specs.declared.Grown.{Grown}
 use Rattle.plans.specs.Laying.{Laid}
 use Rattle.plans.specs.Onto.{taking, onto, NotGrown, Pointers}
@@ -134,18 +135,18 @@ module _ {W : ℕ} {b : List ℕ} {hook : ℕ → ℕ → ℕ → ℕ} {h k n : 
   skip : most ≡ 0 → Children.Placed W b hook h k n (padded l new) c p (j + 1) plan plan' q
   skip e = Children.stores_skip t es (as_part refl) (length_padded (part s j n new) (own_fits refl) ∙ e)
 
-  module _ {x d left taken a : ℕ} {own : List ℕ} (eo : own ≡ part s j n new) (ex : x ≡ cell W b k j) (ed : d ≡ x / W) (el : left ≡ n - j * s)
+  module _ {x taken a : ℕ} {own : List ℕ} {v : Tree} (eo : own ≡ part s j n new) (ex : x ≡ cell W b k j) (ev : v ≡ record { height = h; block = x / W; left = n - j * s })
       (ec : taken ≡ c + tail_before W h n l j) (ea : a ≡ W * k + j) where
     count : taken ≡ c + tail_before W h n (length (padded l new)) j
     count = ec ∙ ap (λ (m : ℕ). c + tail_before W h n m j) (sym (length_padded new u))
 
     -- something is
-    pub step : {q' : ℕ} {plan'' : List ℕ} → Laid plan' q (in_place W b hook h d left (padded most own) taken a) plan'' q' → Children.Placed W b hook h k n (padded l new) c p (j + 1) plan plan'' q'
-    step = Children.stores_step t es (as_part eo) ex ed el count ea
+    pub step : {q' : ℕ} {plan'' : List ℕ} → Laid plan' q (in_place W b hook v.height v.block v.left (padded most own) taken a) plan'' q' → Children.Placed W b hook h k n (padded l new) c p (j + 1) plan plan'' q'
+    step = Children.stores_step t es (as_part eo) ex ev count ea
 
     -- the stores under child j are among all
-    pub room : j < W → q + length (in_place W b hook h d left (padded most own) taken a) ≤ p + length (joined W (Children.kid_stores W b hook h k n (padded l new) c))
-    room = Children.stores_room t es (as_part eo) ex ed el count ea
+    pub room : j < W → q + length (in_place W b hook v.height v.block v.left (padded most own) taken a) ≤ p + length (joined W (Children.kid_stores W b hook h k n (padded l new) c))
+    room = Children.stores_room t es (as_part eo) ex ev count ea
 
 -- the children before j: what is taken there, and the stores
 pub record Done (W : ℕ) (b : List ℕ) (hook : ℕ → ℕ → ℕ → ℕ) (h k n l : ℕ) (new : List ℕ) (c p : ℕ) (plan plan' : List ℕ) (taken q j : ℕ) : Type 0 where

@@ -119,7 +119,7 @@ all_of o l s e =
     (eqb→eq o 0 (and_left (eqb o 0) (eqb l s) t), eqb→eq l s (and_right (eqb o 0) (eqb l s) t))
 
 -- the stores of a data block that is written whole are its page's
-pub new_page : (W : ℕ) (b : List ℕ) (a k n : ℕ) {o : ℕ} (new : List ℕ) → o ≡ 0 → length new ≡ 8 * W → new_stores W a new ≡ tabulate W (λ j. store (a + j) (data_page W b k n o new j))
+pub new_page : (W : ℕ) (b : List ℕ) (a k n : ℕ) {o : ℕ} (new : List ℕ) → o ≡ 0 → length new ≡ 8 * W → new_stores (length new / 8) a new ≡ tabulate W (λ j. store (a + j) (data_page W b k n o new j))
 unfolding new_stores
-new_page W b a k n {o} new eo el = rw eo (tabulate_cong W (λ j. store (a + j) (word_of 8 (λ i. get_or new (8 * j + i) 0))) (λ j. store (a + j) (data_page W b k n 0 new j))
+new_page W b a k n {o} new eo el = let e : length new / 8 ≡ W = omega (arith, el) in rw (eo, e) (tabulate_cong W (λ j. store (a + j) (word_of 8 (λ i. get_or new (8 * j + i) 0))) (λ j. store (a + j) (data_page W b k n 0 new j))
     (λ j l. ap (store (a + j)) (data_word_law W b k n 0 new j refl (word_new (link W b k j) n 0 new j (omega arith) (omega (arith, el)) (rw (sub-zero (8 * j)))))))

@@ -22,11 +22,6 @@ pub record PointerTo (W : ℕ) (free : List ℕ) (i r : ℕ) : Type 0 where
 unfoldable pub spliced_byte : ℕ → ℕ → ℕ → List ℕ → ℕ → ℕ → ℕ
 spliced_byte x n o new j i = splice o new (seen (n - (8 * j + i)) (byte_of x i)) (8 * j + i)
 
--- r is that byte
-pub record SplicedByte (x n o : ℕ) (new : List ℕ) (j i r : ℕ) : Type 0 where
-  pub is : r ≡ spliced_byte x n o new j i
-  pub small : r < 256
-
 -- the stores of the block that begins at address a and gets the words of `new`
 unfoldable pub new_stores : ℕ → ℕ → List ℕ → List Store
 new_stores W a new = tabulate W (λ j. store (a + j) (word_of 8 (λ i. get_or new (8 * j + i) 0)))

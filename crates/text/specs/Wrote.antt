@@ -1,14 +1,11 @@
 -- Text that is written into a buffer.
-use Rattle.std.specs.Prelude.{◌≡◌, List, ◌∷◌, ◌++◌, ℕ, ◌+◌, ◌≤◌, length}
+use Rattle.std.specs.Prelude.{◌≡◌, List, ℕ, ◌+◌, ◌≤◌, length}
 use Rattle.std.proofs.lemmas.List.Edits.{sets}
-use Rattle.model.specs.Lister.{decimal}
+use Rattle.text.specs.declared.Text.{Text}
 
--- The text stands in the buffer from p on, as far as the buffer goes, and r is the position after it. It has at most `most` bytes.
-pub record Wrote (most : ℕ) (text : List ℕ) (p : ℕ) (out : List ℕ) (r : ℕ) (out' : List ℕ) : Type 0 where
+-- t' is t with a text added, of at most `most` bytes: it stands in the buffer behind the text that was there, as far as the buffer goes
+pub record Wrote (most : ℕ) (text : List ℕ) (t t' : Text) : Type 0 where
   pub short : length text ≤ most
-  pub next : r ≡ p + length text
-  pub bytes : out' ≡ sets out p text
-
--- how a line begins: a word, a blank and a number
-abbrev pub entry : List ℕ → ℕ → List ℕ
-entry word n = word ++ (32 ∷ decimal n)
+  pub next : t'.len ≡ t.len + length text
+  pub bytes : t'.out.now ≡ sets t.out.now t.len text
+  pub same_buffer : t'.out.ghost_name ≡ t.out.ghost_name

@@ -47,7 +47,7 @@ unfolding joined
 alone = record { is = refl; most = omega arith }
 
 -- child j added
-module _ (W : ℕ) (two : 1 < W) (b : List ℕ) (h k n j : ℕ) {s count : ℕ} (es : s ≡ span W h) (c : Below W b h k n s j count) where
+module _ (W : ℕ) (b : List ℕ) (h k n j : ℕ) {s count : ℕ} (es : s ≡ span W h) (c : Below W b h k n s j count) where
   joined_more : length (joined (j + 1) (child_blocks W b h k n)) ≡ length (joined j (child_blocks W b h k n)) + length (child_blocks W b h k n j)
   unfolding joined
   joined_more = rw (add-one j) (length-append (joined j (child_blocks W b h k n)) (child_blocks W b h k n j))
@@ -56,10 +56,3 @@ module _ (W : ℕ) (two : 1 < W) (b : List ℕ) (h k n j : ℕ) {s count : ℕ} 
   add {p} {q} {r} ep eq a =
       let e : r ≡ length (child_blocks W b h k n j) = a.is ∙ rw (eq, ep, es) in
       record { is = omega (arith, joined_more, e, c.is); most = omega (arith, es, a.most, c.most) }
-
-  -- or passed over, where it is not live
-  pub skip : n ≤ j * s → Below W b h k n s (j + 1) count
-  skip l =
-      let z : n - j * span W h ≡ 0 = rw (← es) (omega arith) in
-      let none : length (child_blocks W b h k n j) ≡ 0 = rw (z, blocks_dead W b h (cell W b k j / W)) in
-      record { is = omega (arith, joined_more, none, c.is); most = omega (arith, es, span_pos W (omega arith) h, c.most) }

@@ -1,5 +1,6 @@
 -- What a walk visits, one level at a time: under a pointer that isn't live and under a null one nothing; at a live block, the block and what lies
 -- beneath it. How many there are where it ends at a block, and where it ends in a hole.
+use Rattle.std.specs.Prelude.{Some, None}
 use mathlib.Core.Path.{◌≡◌, refl, sym, ◌∙◌}
 use mathlib.Core.Logic.{◌≢◌}
 use mathlib.Core.Bool.{Bool, true, false, cond}
@@ -9,7 +10,6 @@ use native.Mathlib.Omega.{arith}
 use native.Mathlib.Nat.{zero-sub, zero-div}
 use native.Mathlib.Numerals.{sub-one}
 use lib.Dec.{ltb}
-use Rattle.model.specs.declared.WalkEnd.TheVariants.{Block, Hole}
 use Rattle.model.specs.Tree.{ending, visit, span, cell, link, walk, visits}
 use Rattle.model.specs.Board.{root_visits}
 use Rattle.model.proofs.Trees.{walk_dead, walk_null}
@@ -58,7 +58,7 @@ module _ (W : ℕ) (b : List ℕ) where
   visits_most (suc h) k n i = omega (arith, visit_most k n, visits_most h (link W b k (i / span W h) / W) (n - i / span W h * span W h) (i % span W h))
 
   -- one on each level where the walk ends at a block
-  pub visits_arrives : (h k n i q : ℕ) → walk W b h k n i ≡ Block q → visits W b h k n i ≡ suc h
+  pub visits_arrives : (h k n i q : ℕ) → walk W b h k n i ≡ Some q → visits W b h k n i ≡ suc h
   unfolding walk visits ending visit
   visits_arrives zero zero n i q e = absurd (hole≢block q e)
   visits_arrives zero (suc k) zero i q e = absurd (hole≢block q e)
@@ -69,7 +69,7 @@ module _ (W : ℕ) (b : List ℕ) where
       omega (arith, visits_arrives h (link W b (suc k) j / W) (suc n - j * span W h) (i % span W h) q e)
 
   -- and fewer where it ends in a hole
-  pub visits_misses : (h k n i : ℕ) → walk W b h k n i ≡ Hole → visits W b h k n i ≤ h
+  pub visits_misses : (h k n i : ℕ) → walk W b h k n i ≡ None → visits W b h k n i ≤ h
   unfolding walk visits ending visit
   visits_misses zero zero n i e = omega arith
   visits_misses zero (suc k) zero i e = omega arith

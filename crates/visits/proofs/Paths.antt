@@ -1,4 +1,5 @@
 -- Which blocks a walk visits: those of the tree's live blocks that span the byte, and no others.
+use Rattle.std.specs.Prelude.{Some}
 use mathlib.Core.Path.{◌≡◌, refl, sym, ap, ◌∙◌}
 use mathlib.Core.Logic.{◌≢◌, ◌⊎◌, inl, inr}
 use mathlib.Core.Bool.{Bool, true, false, and-false}
@@ -9,7 +10,6 @@ use native.Mathlib.Nat.{mul-le-mul_right}
 use lib.ListN.{length}
 use lib.Dec.{T}
 use borrow.Author.Tests.{le-leb, lt-leb, lt-ltb, le-ltb}
-use Rattle.model.specs.declared.WalkEnd.TheVariants.{Block}
 use Rattle.model.specs.Lists.{joined, sum, cons_if, filter, distinct, occ}
 use Rattle.model.specs.Tree.{ending, visit, span, cell, link, walk, visits, blocks}
 use Rattle.model.proofs.Cases.{either, split, length_joined}
@@ -148,7 +148,7 @@ module _ (W : ℕ) (b : List ℕ) where
         rw (over_inside a i (suc k) (span W (suc h)) l) (omega (arith, kept_joined (over (a + i)) W under, alone, rw same at below))
 
     -- the block where the walk ends is one of them
-    pub end_over : (h k n a i q : ℕ) → i < span W h → walk W b h k n i ≡ Block q → 0 < occ q (map (λ p. p.block) (filter (over (a + i)) (placed W b h k n a)))
+    pub end_over : (h k n a i q : ℕ) → i < span W h → walk W b h k n i ≡ Some q → 0 < occ q (map (λ p. p.block) (filter (over (a + i)) (placed W b h k n a)))
     unfolding walk ending placed filter cons_if occ link
     end_over zero zero n a i q l e = absurd (hole≢block q e)
     end_over zero (suc k) zero a i q l e = absurd (hole≢block q e)

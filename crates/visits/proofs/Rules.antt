@@ -1,4 +1,5 @@
 -- The claims: what walks visit in a file, which stretches are counted, and how many blocks a read or a write visits at most.
+use Rattle.std.specs.Prelude.{Ok, Err, Some, None}
 use mathlib.Core.Path.{◌≡◌, sym, ◌∙◌}
 use mathlib.Core.Logic.{inl, inr}
 use mathlib.Core.Bool.{Bool, true, false, cond}
@@ -9,14 +10,11 @@ use native.Mathlib.Nat.{zero-add, mul-le-mul_right, mul-div_cancel, le-div_iff_m
 use lib.ListN.{length, length-map}
 use lib.Dec.{ltb}
 use borrow.Author.Tests.{lt-ltb, le-ltb}
-use Rattle.model.specs.declared.Answer.{Answer}
-use Rattle.model.specs.declared.Answer.TheVariants.{Done, Refused}
-use Rattle.model.specs.declared.WalkEnd.TheVariants.{Block, Hole}
 use Rattle.model.specs.Lists.{sum, filter, occ}
 use Rattle.model.specs.Layout.{Layout, files, house}
 use Rattle.model.specs.Tree.{span, walk, visits}
 use Rattle.model.specs.Board.{root_walk, root_visits, root_blocks, root, root_height, root_block, size, file_walk, file_visits, visits_to, file_blocks}
-use Rattle.model.specs.Answers.{unless_refused}
+use Rattle.model.specs.Answers.{unless_refused, Answer}
 use Rattle.model.specs.Plan.{Plan, pairs}
 use Rattle.model.specs.Change.{write_plan}
 use Rattle.model.specs.Calls.{file_faults, stretch_count, root_visited, read_count, read_answer, visited, read_visited, lowest, write_faults, write_from, write, write_visited}
@@ -42,23 +40,23 @@ use Rattle.visits.proofs.Paths.{distinct_kept, placed_blocks, none_over, path_co
 -- ---- A file by its root word and its size
 
 module _ (W : ℕ) (b : List ℕ) (r n i : ℕ) where
-  root_arrives : (q : ℕ) → root_walk W b r n i ≡ Block q → root_visits W b r n i ≡ suc (r % W)
+  root_arrives : (q : ℕ) → root_walk W b r n i ≡ Some q → root_visits W b r n i ≡ suc (r % W)
   unfolding root_walk root_visits
   root_arrives q e = by (ltb i (span W (r % W))) e
     where
-      by : (t : Bool) → cond t (walk W b (r % W) (r / W) n i) Hole ≡ Block q → cond t (visits W b (r % W) (r / W) n i) 0 ≡ suc (r % W)
+      by : (t : Bool) → cond t (walk W b (r % W) (r / W) n i) None ≡ Some q → cond t (visits W b (r % W) (r / W) n i) 0 ≡ suc (r % W)
       by true e = visits_arrives W b (r % W) (r / W) n i q e
       by false e = absurd (hole≢block q e)
 
-  root_misses : root_walk W b r n i ≡ Hole → root_visits W b r n i ≤ r % W
+  root_misses : root_walk W b r n i ≡ None → root_visits W b r n i ≤ r % W
   unfolding root_walk root_visits
   root_misses e = by (ltb i (span W (r % W))) e
     where
-      by : (t : Bool) → cond t (walk W b (r % W) (r / W) n i) Hole ≡ Hole → cond t (visits W b (r % W) (r / W) n i) 0 ≤ r % W
+      by : (t : Bool) → cond t (walk W b (r % W) (r / W) n i) None ≡ None → cond t (visits W b (r % W) (r / W) n i) 0 ≤ r % W
       by true e = visits_misses W b (r % W) (r / W) n i e
       by false e = omega arith
 
-  root_over : 0 < W → (q : ℕ) → root_walk W b r n i ≡ Block q → 0 < occ q (map (λ p. p.block) (filter (over i) (placed W b (r % W) (r / W) n 0)))
+  root_over : 0 < W → (q : ℕ) → root_walk W b r n i ≡ Some q → 0 < occ q (map (λ p. p.block) (filter (over i) (placed W b (r % W) (r / W) n 0)))
   unfolding root_walk
   root_over pos q e = elim (split (span W (r % W)) i) [
     | inl past ↦ absurd (hole≢block q (rw (le-ltb i (span W (r % W)) past) at e))
@@ -156,8 +154,8 @@ sum_most c (suc m) f l = omega (arith, sum_most c m f l, l m)
 
 unless_most : (r : Answer) (a c : ℕ) → a ≤ c → unless_refused r a 0 ≤ c
 unfolding unless_refused
-unless_most (Done n) a c l = l
-unless_most (Refused x) a c l = omega arith
+unless_most (Ok n) a c l = l
+unless_most (Err x) a c l = omega arith
 
 -- where each walk visits at most c blocks once no fault of the file is found
 module _ (g : Layout) (b : List ℕ) (f o c : ℕ) (each : All Passed (file_faults g b f) → (i : ℕ) → file_visits g b f i ≤ c) where

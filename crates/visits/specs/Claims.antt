@@ -1,6 +1,5 @@
 -- What is promised of the blocks that walks visit, N6 of document 02. All are proved; README says where.
-use Rattle.std.specs.Prelude.{◌≡◌, ◌↔◌, List, map, ℕ, suc, ◌+◌, ◌*◌, ◌/◌, ◌≤◌, ◌<◌, length, T}
-use Rattle.model.specs.declared.WalkEnd.TheVariants.{Block, Hole}
+use Rattle.std.specs.Prelude.{◌≡◌, ◌↔◌, List, map, ℕ, suc, ◌+◌, ◌*◌, ◌/◌, ◌≤◌, ◌<◌, length, T, Some, None}
 use Rattle.model.specs.Lists.{sum, filter, member, distinct}
 use Rattle.model.specs.Layout.{Layout, Fits, house, files}
 use Rattle.model.specs.Tree.{span}
@@ -22,9 +21,9 @@ pub record Visiting (g : Layout) (b : List ℕ) (f : ℕ) : Type 0 where
   pub counts : (i : ℕ) → visits_to g b f i ≡ length (blocks_over g b f i)
   pub once : (i : ℕ) → T (distinct (blocks_over g b f i))
   -- *the data block included*: a walk that ends at a block has visited one on each level, that block among them
-  pub arrives : (i k : ℕ) → walk_to g b f i ≡ Block k → (visits_to g b f i ≡ suc (root_height g b f)) × T (member k (blocks_over g b f i))
+  pub arrives : (i k : ℕ) → walk_to g b f i ≡ Some k → (visits_to g b f i ≡ suc (root_height g b f)) × T (member k (blocks_over g b f i))
   -- *and a hole not counted*
-  pub misses : (i : ℕ) → walk_to g b f i ≡ Hole → visits_to g b f i ≤ root_height g b f
+  pub misses : (i : ℕ) → walk_to g b f i ≡ None → visits_to g b f i ≤ root_height g b f
   -- so at most height + 1; and no more than the greatest height allows, also in a file of size 0, whose root may hold any bits
   pub most : (i : ℕ) → visits_to g b f i ≤ suc (root_height g b f)
   pub tallest : (i : ℕ) → visits_to g b f i ≤ suc g.height

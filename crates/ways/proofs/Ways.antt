@@ -10,7 +10,7 @@ use lib.Dec.{leb, eqb}
 use lib.Pow.{pow_pos}
 use borrow.Author.Tests.{le-leb, lt-leb}
 use Rattle.model.specs.declared.Inode.{Inode}
-use Rattle.model.specs.declared.Kind.{Kind}
+use Rattle.model.specs.Layout.{Kind}
 use Rattle.model.specs.Layout.{Layout, layout_of}
 use Rattle.model.specs.Tree.{live, least}
 use Rattle.model.specs.Store.{Store, store, laid}
@@ -23,6 +23,7 @@ use Rattle.model.proofs.Built.{length_build_null}
 use Rattle.model.proofs.Tailed.{length_tail}
 use Rattle.words.proofs.Widths as Widths
 use Rattle.kinds.specs.Figures.{Bits}
+use Rattle.trees.specs.declared.Tree.{Tree}
 use Rattle.trees.specs.Trees.{Reach}
 use Rattle.plans.specs.declared.Grown.{Grown}
 use Rattle.plans.specs.Laying.{closing, Laid, PlanLaid}
@@ -46,38 +47,37 @@ few_stores {r = r} {h} wide l b hook k n new c a =
     omega (arith, place_most (2 ^ r) (pow_pos r) b hook h k n new c a, mul-le-mul (Widths.most wide.width) (whole_few wide l))
 
 -- in a tree of height h
-module _ {kind : Kind} {bits : ℕ} {n : Inode} {o : ℕ} {new free pages : List ℕ} {grown : Grown} {base t : ℕ} (ready : Ready kind bits n o new free pages grown base t)
+module _ {kind : Kind} {bits : ℕ} {n : Inode} {o : ℕ} {new pages : List ℕ} {base t : ℕ} (ready : Ready kind bits n o new pages base t)
     {h : ℕ} (l : h ≤ (layout_of kind).height) where
   abbrev W : ℕ
   W = 2 ^ bits
 
   -- what `tail_pages` asks
-  pub may_tail : (m : ℕ) → Reach bits h × Pointers bits free grown × (W * h ≤ length pages) × (base + W * (t + tail_need W h m (length new)) ≤ 2 ^ 32)
+  pub may_tail : (m : ℕ) → Reach bits h × (W * h ≤ length pages) × (base + W * (t + tail_need W h m (length new)) ≤ 2 ^ 32)
   may_tail m = may_take ready l (tail_most W h m (length new))
 
   -- the place after the pages of a tail
-  pub tail_place : {plan plan' : List ℕ} {t' : ℕ} (c : List ℕ) (k m : ℕ) → Took W free plan base t (tail_pages W c (taking free) h k m new t) plan' t' → base + W * t' ≤ 2 ^ 31
-  tail_place {t' = t'} c k m took =
+  pub tail_place : {free plan plan' : List ℕ} {t' : ℕ} (c : List ℕ) (k m : ℕ) → Took W free plan base t (tail_pages W c (taking free) h k m new t) plan' t' → base + W * t' ≤ 2 ^ 31
+  tail_place {free = free} {t' = t'} c k m took =
       let e : t' ≡ t + tail_need W h m (length new) = omega (arith, took.next, length_tail W (pow_pos bits) c (taking free) h k m new t) in
       rw e (place_after ready l (tail_most W h m (length new)))
 
   -- what `in_place` asks
-  pub may_store : (c : List ℕ) (k m a p : ℕ) → W * k + W ≤ 2 ^ 64 → p ≤ 2 ^ 31
-      → Reach bits h × (W * k + W ≤ 2 ^ 64) × Pointers bits free grown × (length new ≤ length new) × (t + tail_need W h m (length new) ≤ 2 ^ 32)
+  pub may_store : (c free : List ℕ) (k m a p : ℕ) → W * k + W ≤ 2 ^ 64 → p ≤ 2 ^ 31
+      → Reach bits h × (W * k + W ≤ 2 ^ 64) × (length new ≤ length new) × (t + tail_need W h m (length new) ≤ 2 ^ 32)
       × (p + length (in_place W c (hooks W free) h k m (padded (length new) new) t a) ≤ 2 ^ 32)
-  may_store c k m a p small place =
+  may_store c free k m a p small place =
       let asks = may_tail m in (
         asks.0,
         small,
-        asks.1,
         omega arith,
-        omega (arith, Taken.count_small base (t + tail_need W h m (length new)) ready.pages.wide.width asks.3),
+        omega (arith, Taken.count_small base (t + tail_need W h m (length new)) ready.pages.wide.width asks.2),
         omega (arith, few_stores ready.pages.wide l c (hooks W free) k m (padded (length new) new) t a, place),
       )
 
   -- the place after its stores
-  pub store_place : {plan plan' : List ℕ} {p q : ℕ} (c : List ℕ) (k m a : ℕ) → p ≤ 2 ^ 31 → Laid plan p (in_place W c (hooks W free) h k m new t a) plan' q → q ≤ 2 ^ 32
-  store_place c k m a place others = omega (arith, others.next, few_stores ready.pages.wide l c (hooks W free) k m new t a)
+  pub store_place : {plan plan' : List ℕ} {p q : ℕ} (c free : List ℕ) (k m a : ℕ) → p ≤ 2 ^ 31 → Laid plan p (in_place W c (hooks W free) h k m new t a) plan' q → q ≤ 2 ^ 32
+  store_place c free k m a place others = omega (arith, others.next, few_stores ready.pages.wide l c (hooks W free) k m new t a)
 
 tail_live : (g : Layout) (fresh : ℕ → ℕ) (c : List ℕ) (n : Inode) (s o : ℕ) (new : List ℕ) (t : ℕ) → 0 < s →
     let W : ℕ = g.words in
@@ -101,15 +101,16 @@ module _ (g : Layout) {W : ℕ} (is : g.words ≡ W) (c : List ℕ) (n : Inode) 
       let hidden = Laying.more (Taken.laid_pages took) (Laying.one (rw eq at e)) in
       rw (← eh, is, ← count, ← took.next, ← ev) (one_step (n.at + 1) (o + length new) t' hidden (rw (eq, ep) at l) refl)
 
-  module _ {h k : ℕ} (eh : h ≡ n.root % W) (ek : k ≡ n.root / W) where
+  module _ {u : Tree} (eu : u ≡ record { height = n.root % W; block = n.root / W; left = n.size }) where
     -- in a file that is not empty
-    pub tail_laid : (new : List ℕ) {plan₂ plan₃ : List ℕ} {x r : ℕ} → 0 < n.size → Took W free plan base t (tail_pages W c (taking free) h k n.size new t) plan₁ t'
-        → Laid plan₁ q (in_place W c (hooks W free) h k n.size new t n.at) plan₂ x → Laid plan₂ x (closing (x - p) (store (n.at + 1) (n.size + length new))) plan₃ r
+    pub tail_laid : (new : List ℕ) {plan₂ plan₃ : List ℕ} {x r : ℕ} → 0 < n.size → Took W free plan base t (tail_pages W c (taking free) u.height u.block u.left new t) plan₁ t'
+        → Laid plan₁ q (in_place W c (hooks W free) u.height u.block u.left new t n.at) plan₂ x → Laid plan₂ x (closing (x - p) (store (n.at + 1) (n.size + length new))) plan₃ r
         → PlanLaid plan (base + W * t) (tail g (taking free) c n n.size n.size new t) plan₃ (record { pairs = r; taken = t' })
     unfolding hooks
     tail_laid new live took others l =
-        rw (tail_live g (taking free) c n n.size n.size new t live, is, ← eh, ← ek, ← took.next)
-        (one_step (n.at + 1) (n.size + length new) t' (Laying.more (Taken.laid_pages took) (rw eq at others)) (rw ep at l) refl)
+        let pages = rw eu at took in
+        rw (tail_live g (taking free) c n n.size n.size new t live, is, ← pages.next)
+        (one_step (n.at + 1) (n.size + length new) t' (Laying.more (Taken.laid_pages pages) (rw (eu, eq) at others)) (rw ep at l) refl)
 
 -- ---- The choice
 

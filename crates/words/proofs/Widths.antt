@@ -2,7 +2,7 @@
 use mathlib.Core.Path.{◌≡◌, sym, ap, ◌∙◌}
 use mathlib.Core.Logic.{inl, inr}
 use Prim.Native.Nat.{ℕ, ◌+◌, ◌-◌, ◌*◌, ◌/◌, ◌%◌, ◌^◌, ◌≤◌, ◌<◌}
-use native.Mathlib.Nat.{mul_comm, mul-le-mul_left, mul-le-mul_right, mod-eq_of_lt, mod-eq-sub-div-mul, div-mul-le_self, lt-div-mul-add}
+use native.Mathlib.Nat.{mul_comm, mul-le-mul_left, mul-le-mul_right, div-mul-le_self, lt-div-mul-add}
 use native.Mathlib.Omega.{arith}
 use lib.Pow.{pow_pos, pow_mono, pow-add}
 use Rattle.model.proofs.Cases.{split}
@@ -21,17 +21,6 @@ wide w = let e = most w in let f = least w in record { is = omega arith; least =
 -- the bytes of a block
 pub bytes : (b : ℕ) → 2 ^ (b + 3) ≡ 8 * 2 ^ b
 bytes b = pow-add 2 b 3 ∙ mul_comm (2 ^ b) 8
-
--- a shift to the left that stays within a word
-pub left : (b k : ℕ) → 2 ^ b * k < 2 ^ 64 → k * 2 ^ b % 18446744073709551616 ≡ 2 ^ b * k
-left b k l = rw (mul_comm k (2 ^ b)) (mod-eq_of_lt l)
-
--- a number without its low bits, and those
-pub whole : (b p : ℕ) → p < 18446744073709551616 → p / 2 ^ b * 2 ^ b % 18446744073709551616 ≡ p / 2 ^ b * 2 ^ b
-whole b p l = mod-eq_of_lt (omega (arith, div-mul-le_self p (2 ^ b)))
-
-pub low : (b p : ℕ) → p < 18446744073709551616 → p - p / 2 ^ b * 2 ^ b % 18446744073709551616 ≡ p % 2 ^ b
-low b p l = rw (whole b p l, mod-eq-sub-div-mul p (2 ^ b))
 
 -- block k begins on a board of n words, or past its end
 pub within : (b k n : ℕ) → k ≤ n / 2 ^ b → 2 ^ b * k ≤ n

@@ -1,4 +1,3 @@
--- The front of a slice that a call filled (Filled), how many words a block has (Width), and a byte read (Bytes).
+-- The front of a slice that a call filled (Filled), and how many words a block has (Width).
 pub mod Filled
 pub mod Width
-pub mod Bytes

@@ -2,19 +2,17 @@
 // there does nothing.
 #![tactic(auto)]
 
-ghost use Rattle.std.specs.Prelude.{◌≡◌, ◌++◌, ◌+◌, ◌-◌, ◌*◌, ◌/◌, ◌%◌, ◌^◌, ◌≤◌, ◌<◌, length, get_or, drop, set};
+ghost use Rattle.std.specs.Prelude.{ℕ, ◌≡◌, ◌++◌, ◌+◌, ◌-◌, ◌*◌, ◌/◌, ◌%◌, ◌^◌, ◌≤◌, ◌<◌, length, get_or, drop, set};
 ghost use Rattle.model.specs.Words.{byte_of, word_of, words_of};
 ghost use Rattle.model.specs.Tree.{cell};
 ghost use Rattle.words.specs.Width.{Width, Wide};
 ghost use Rattle.words.specs.Filled.{Filled};
-ghost use Rattle.words.specs.Bytes.{ByteAt};
 
 // The word at an index.
 pub fn word(words: &[u64], at: u64) -> u64
     ensures { result ≡ get_or words.now at 0 }
 {
-    let i = at as usize;
-    if i < words.len() { words[i] } else { 0 }
+    words.get(at as usize).copied().unwrap_or(0)
 }
 
 // Stores a word.
@@ -27,59 +25,55 @@ pub fn put(words: &mut [u64], at: u64, value: u64)
     }
 }
 
-// a - b, or 0.
-pub fn minus(a: u64, b: u64) -> u64
-    ensures { result ≡ a - b }
-{
-    if b <= a { a - b } else { 0 }
+// How many words a block has, told by a type: code for each size of block is compiled apart.
+pub trait BlockSize {
+    // A block has 2 ^ BITS words: 8 on a house board (BITS is 3), 512 on one with the published block (9).
+    const BITS: u64;
+
+    ghost BITS: { ℕ };
+
+    ghost width: { Width BITS };
 }
 
-// A block has 2 ^ bits words: 8 on a house board (bits is 3), 512 on one with the published block (9).
-pub fn width(bits: u64) -> u64
-    requires { Width bits }
-    ensures { Wide bits result }
+// A block's words.
+pub fn width<B: BlockSize>() -> u64
+    ensures { Wide B.BITS result }
 {
-    1 << bits
+    1 << B::BITS
 }
 
 // The block of a pointer: what is left of it without its low bits.
-pub fn block_of(bits: u64, p: u64) -> u64
-    requires { bits < 64 }
-    ensures { result ≡ p / 2 ^ bits }
+pub fn block_of<B: BlockSize>(p: u64) -> u64
+    ensures { result ≡ p / 2 ^ B.BITS }
 {
-    p >> bits
+    p >> B::BITS
 }
 
 // The low bits of a pointer.
-pub fn low_of(bits: u64, p: u64) -> u64
-    requires { bits < 64 }
-    ensures { result ≡ p % 2 ^ bits }
+pub fn low_of<B: BlockSize>(p: u64) -> u64
+    ensures { result ≡ p % 2 ^ B.BITS }
 {
-    p - ((p >> bits) << bits)
+    p % (1 << B::BITS)
 }
 
 // Where block k begins: the pointer to it.
-pub fn start_of(bits: u64, k: u64) -> u64
-    requires { (bits < 64) × (2 ^ bits * k < 2 ^ 64) }
-    ensures { result ≡ 2 ^ bits * k }
+pub fn start_of<B: BlockSize>(k: u64) -> u64
+    requires { 2 ^ B.BITS * k < 2 ^ 64 }
+    ensures { result ≡ 2 ^ B.BITS * k }
 {
-    k << bits
+    k << B::BITS
 }
 
 // Word j of block k. A block that begins past the end is told by its number: where it would begin may be no word.
-pub fn cell(bits: u64, board: &[u64], k: u64, j: u64) -> u64
-    requires { Width bits }
-    ensures { result ≡ cell (2 ^ bits) board.now k j }
+pub fn cell<B: BlockSize>(board: &[u64], k: u64, j: u64) -> u64
+    ensures { result ≡ cell (2 ^ B.BITS) board.now k j }
 {
     let n = board.len() as u64;
-    if block_of(bits, n) < k {
+    if block_of::<B>(n) < k {
         return 0;
     }
-    let start = start_of(bits, k);
-    if n - start <= j {
-        return 0;
-    }
-    board[(start + j) as usize]
+    let start = start_of::<B>(k);
+    word(&board[start as usize..], j)
 }
 
 // Byte i of a word.
@@ -87,7 +81,7 @@ pub fn byte(x: u64, i: u64) -> u8
     requires { i < 8 }
     ensures { result ≡ byte_of x i }
 {
-    ((x >> (8 * i)) % 256) as u8
+    x.to_le_bytes()[i as usize]
 }
 
 // The eight bytes of a word, to the front of a buffer.
@@ -95,33 +89,15 @@ pub fn spread(x: u64, out: &mut [u8])
     requires { 8 ≤ length out.old }
     ensures { Filled (byte_of x) 8 out.old out.new }
 {
-    let mut i = 0;
-    while i < 8 {
-        out[i] = byte(x, i as u64);
-        i += 1;
-    }
+    out[..8].copy_from_slice(&x.to_le_bytes());
 }
 
-// The byte at an index.
-fn byte_at(bytes: &[u8], at: usize) -> u64
-    requires { at < length bytes.now }
-    ensures { ByteAt bytes.now at result }
-{
-    bytes[at] as u64
-}
-
-// The word whose byte 0 is at an index. A sum of this form is compiled to one load.
+// The word whose byte 0 is at an index.
 pub fn word_at(bytes: &[u8], at: usize) -> u64
     requires { at + 8 ≤ length bytes.now }
     ensures { result ≡ word_of 8 (λ i. get_or bytes.now (at + i) 0) }
 {
-    let x6 = byte_at(bytes, at + 6) + 256 * byte_at(bytes, at + 7);
-    let x5 = byte_at(bytes, at + 5) + 256 * x6;
-    let x4 = byte_at(bytes, at + 4) + 256 * x5;
-    let x3 = byte_at(bytes, at + 3) + 256 * x4;
-    let x2 = byte_at(bytes, at + 2) + 256 * x3;
-    let x1 = byte_at(bytes, at + 1) + 256 * x2;
-    byte_at(bytes, at) + 256 * x1
+    u64::from_le_bytes(*bytes[at..].first_chunk().unwrap())
 }
 
 // Stores each whole word of some bytes.
@@ -129,10 +105,8 @@ pub fn decode(bytes: &[u8], words: &mut [u64])
     requires { length bytes.now / 8 ≤ length words.old }
     ensures { words.new ≡ words_of bytes.now ++ drop (length bytes.now / 8) words.old }
 {
-    let n = bytes.len() / 8;
-    let mut i = 0;
-    while i < n {
-        words[i] = word_at(bytes, 8 * i);
-        i += 1;
+    let (chunks, _) = bytes.as_chunks();
+    for (i, chunk) in chunks.iter().enumerate() {
+        words[i] = u64::from_le_bytes(*chunk);
     }
 }

@@ -7,18 +7,18 @@ use Rattle.answers.proofs.Signs.{negated_fits, done_fits, done_signed, refused_s
 use Rattle.answers.proofs.signed.Goals as goal
 
 pub overflow_cast-result : goal.overflow_cast-result
-overflow_cast-result c = done_fits c.requires c.in-Done.is
+overflow_cast-result c = done_fits c.requires c.in-Ok.is
 
-pub overflow_cast-result-in-Refused : goal.overflow_cast-result-in-Refused
-overflow_cast-result-in-Refused c = record { sfits = refused_small _ c.number.ensures }
+pub overflow_cast-result-in-Err : goal.overflow_cast-result-in-Err
+overflow_cast-result-in-Err c = record { sfits = refused_small _ c.from.ensures }
 
 -- whichever is taken from the other, so that a wrong sign is refused by `returns-in-Refused`
 pub overflow_sub-result : goal.overflow_sub-result
-overflow_sub-result c = let s = refused_small _ c.number.ensures in simp (to_z_pos w64 s, +ℤ_idl) (omega (arith, s, negated_fits _ s))
+overflow_sub-result c = let s = refused_small _ c.from.ensures in simp (to_z_pos w64 s, +ℤ_idl) (omega (arith, s, negated_fits _ s))
 
-pub returns-in-Done : goal.returns-in-Done
-returns-in-Done c = done_signed c.requires c.in-Done.is
+pub returns-in-Ok : goal.returns-in-Ok
+returns-in-Ok c = done_signed c.requires c.in-Ok.is
 
-pub returns-in-Refused : goal.returns-in-Refused
-returns-in-Refused c = let e = c.number.ensures in
-    to_z-of_z (overflow_sub-result c) ∙ simp (to_z_pos w64 (refused_small _ e), +ℤ_idl) (refused_signed _ e c.in-Refused.is)
+pub returns-in-Err : goal.returns-in-Err
+returns-in-Err c = let e = c.from.ensures in
+    to_z-of_z (overflow_sub-result c) ∙ simp (to_z_pos w64 (refused_small _ e), +ℤ_idl) (refused_signed _ e c.in-Err.is)

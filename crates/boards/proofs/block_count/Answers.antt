@@ -3,4 +3,4 @@ use Rattle.boards.proofs.block_count.Goals as goal
 
 pub returns : goal.returns
 unfolding block_count
-returns c = c.block_in.ensures
+returns g c = c.block_in.ensures

@@ -1,36 +1,26 @@
-use mathlib.Core.Path.{◌≡◌, refl, sym, ◌∙◌}
-use mathlib.Core.List.{List}
-use Prim.Native.Nat.{ℕ, ◌+◌}
-use native.Mathlib.Numerals.{add-one}
-use native.Mathlib.Omega.{arith}
-use lib.Dec.{eqb}
-use borrow.Author.Tests.{eq-eqb, ne_eqb}
+use mathlib.Core.Path.{◌≡◌, refl, ◌∙◌}
+use mathlib.Core.Bool.{Bool, true, false, ◌&&◌}
+use Prim.Native.Nat.{ℕ, suc}
+use Rattle.std.proofs.Common.{rules, tests, eqb}
+use Rattle.std.specs.List.{list_all, range_with_len}
+use Rattle.std.proofs.lemmas.Iterator.{YieldsList-from_range}
+use Rattle.std.proofs.lemmas.Iterator.Search.{all_from_yields_List}
 use Rattle.model.specs.Lists.{every}
-use Rattle.model.specs.Layout.{Layout, layout_of}
-use Rattle.model.specs.Board.{trailer_word, block_count, trailer}
-use Rattle.model.proofs.Cases.{every_more, every_fails}
-use Rattle.boards.specs.Trailers.{trailer_word_sound}
+use Rattle.model.specs.Layout.{layout_of}
+use Rattle.model.specs.Board.{trailer_word, trailer}
 use Rattle.boards.proofs.figures_sound.Goals as goal
 
--- what the code's three calls say of it
-told : (g : Layout) (b : List ℕ) (j : ℕ) {x n y : ℕ} → x ≡ trailer g b (j + 1) → n ≡ block_count g b → y ≡ trailer_word g n (j + 1) → trailer_word_sound g b j ≡ eqb x y
-told g b j ex en ey = rw (ex, ey, en, add-one j)
-
-pub loop-j-init : goal.loop-j-init
+three : (p : ℕ → Bool) → list_all p (range_with_len 1 3) ≡ every 3 (λ j. p (suc j))
 unfolding every
-loop-j-init c = (omega arith, refl)
-
-pub returns-then-trailer-trailer_word : goal.returns-then-trailer-trailer_word
-returns-then-trailer-trailer_word c = let a = c.args in let g = layout_of a.kind in
-    sym (every_fails 3 c.loop-j.j (trailer_word_sound g a.board.now) c.loop-j-test.true
-    (told g a.board.now c.loop-j.j c.trailer.ensures c.block_count.ensures c.trailer_word.ensures ∙ ne_eqb _ _ c.if-trailer-trailer_word.true))
-
-pub loop-j-preserved : goal.loop-j-preserved
-loop-j-preserved c = let a = c.args in let g = layout_of a.kind in (
-  omega arith,
-  every_more c.loop-j.j (trailer_word_sound g a.board.now) c.loop-j.invariant.1
-      (told g a.board.now c.loop-j.j c.trailer.ensures c.block_count.ensures c.trailer_word.ensures ∙ eq-eqb _ _ c.if-trailer-trailer_word.false),
-)
+three p = by (p 1) (p 2) (p 3)
+  where
+    by : (x y z : Bool) → (x && (y && (z && true))) ≡ (x && y && z)
+    by true true true = refl
+    by true true false = refl
+    by true false z = refl
+    by false y z = refl
 
 pub returns : goal.returns
-returns c = let e : c.loop-j.j ≡ 3 = omega arith in sym (rw e at c.loop-j.invariant.1)
+returns g c = let a = c.args in let k = layout_of g.L.Layout.kind in
+    let test : ℕ → Bool = λ j. eqb (trailer k a.board.now j) (trailer_word k c.block_count-blocks.result j) in
+    all_from_yields_List test _ _ _ c.all.ensures.ran (YieldsList-from_range 1 4 3 refl refl) (λ x b q k. search (rules, tests)) ∙ three test ∙ rw c.block_count-blocks.ensures

@@ -4,4 +4,4 @@ use Rattle.boards.proofs.inode_pointer.Goals as goal
 
 pub returns : goal.returns
 unfolding inode_pointer inode_block
-returns c = c.cell.ensures ∙ rw (c.block_in-k.ensures, c.trailer.ensures, c.bits.ensures.is)
+returns g c = c.cell.ensures ∙ rw (c.block_in-k.ensures, c.trailer.ensures, g.met.L.Layout.figures.bits.is)

@@ -5,4 +5,4 @@ use Rattle.boards.proofs.root.Goals as goal
 
 pub returns : goal.returns
 unfolding root
-returns c = c.inode_word.ensures ∙ rw (add-zero _)
+returns g c = c.inode_word.ensures ∙ rw (add-zero _)

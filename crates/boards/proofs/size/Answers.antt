@@ -3,4 +3,4 @@ use Rattle.boards.proofs.size.Goals as goal
 
 pub returns : goal.returns
 unfolding size size_address
-returns c = c.inode_word.ensures
+returns g c = c.inode_word.ensures

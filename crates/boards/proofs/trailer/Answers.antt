@@ -4,4 +4,4 @@ use Rattle.boards.proofs.trailer.Goals as goal
 
 pub returns : goal.returns
 unfolding trailer
-returns c = c.cell.ensures ∙ rw (c.last.ensures, c.bits.ensures.is)
+returns g c = c.cell.ensures ∙ rw (c.last.ensures, g.met.L.Layout.figures.bits.is)

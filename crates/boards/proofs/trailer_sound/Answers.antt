@@ -15,17 +15,17 @@ block W e h = h ∙ rw e
 
 pub returns-then-low_in-ne1 : goal.returns-then-low_in-ne1
 unfolding trailer_sound
-returns-then-low_in-ne1 c = rw (← low (layout_of c.args.kind).words c.trailer-p.ensures c.low_in.ensures, ne_eqb c.low_in.result 1 c.if-low_in-ne1.true)
+returns-then-low_in-ne1 g c = rw (← low (layout_of g.L.Layout.kind).words c.trailer-p.ensures c.low_in.ensures, ne_eqb c.low_in.result 1 c.if-low_in-ne1.true)
 
 pub returns-then-k-eq0 : goal.returns-then-k-eq0
 unfolding trailer_sound in_range inode_block
-returns-then-k-eq0 c = rw (← low (layout_of c.args.kind).words c.trailer-p.ensures c.low_in.ensures, ← block (layout_of c.args.kind).words c.trailer-p.ensures c.block_in-k.ensures, eq-eqb c.low_in.result 1 c.if-low_in-ne1.false, c.if-k-eq0.true)
+returns-then-k-eq0 g c = rw (← low (layout_of g.L.Layout.kind).words c.trailer-p.ensures c.low_in.ensures, ← block (layout_of g.L.Layout.kind).words c.trailer-p.ensures c.block_in-k.ensures, eq-eqb c.low_in.result 1 c.if-low_in-ne1.false, c.if-k-eq0.true)
 
 pub returns-then-last-k : goal.returns-then-last-k
 unfolding trailer_sound in_range inode_block
-returns-then-last-k c = let t = c.last in rw (← low (layout_of c.args.kind).words c.trailer-p.ensures c.low_in.ensures, ← block (layout_of c.args.kind).words c.trailer-p.ensures c.block_in-k.ensures, ← t.ensures, eq-eqb c.low_in.result 1 c.if-low_in-ne1.false, lt-ltb 0 c.block_in-k.result (omega arith), le-ltb c.block_in-k.result t.result c.if-last-k.true)
+returns-then-last-k g c = let t = c.last in rw (← low (layout_of g.L.Layout.kind).words c.trailer-p.ensures c.low_in.ensures, ← block (layout_of g.L.Layout.kind).words c.trailer-p.ensures c.block_in-k.ensures, ← t.ensures, eq-eqb c.low_in.result 1 c.if-low_in-ne1.false, lt-ltb 0 c.block_in-k.result (omega arith), le-ltb c.block_in-k.result t.result c.if-last-k.true)
 
 pub returns : goal.returns
 unfolding trailer_sound in_range inode_block
-returns c = let t = c.last in c.trailer_words_sound.ensures
-    ∙ rw (← low (layout_of c.args.kind).words c.trailer-p.ensures c.low_in.ensures, ← block (layout_of c.args.kind).words c.trailer-p.ensures c.block_in-k.ensures, ← t.ensures, eq-eqb c.low_in.result 1 c.if-low_in-ne1.false, lt-ltb 0 c.block_in-k.result (omega arith), lt-ltb c.block_in-k.result t.result c.if-last-k.false)
+returns g c = let t = c.last in c.trailer_words_sound.ensures
+    ∙ rw (← low (layout_of g.L.Layout.kind).words c.trailer-p.ensures c.low_in.ensures, ← block (layout_of g.L.Layout.kind).words c.trailer-p.ensures c.block_in-k.ensures, ← t.ensures, eq-eqb c.low_in.result 1 c.if-low_in-ne1.false, lt-ltb 0 c.block_in-k.result (omega arith), lt-ltb c.block_in-k.result t.result c.if-last-k.false)

@@ -17,15 +17,15 @@ other g B (suc (suc (suc (suc j)))) a b c = refl
 
 pub returns-in-1 : goal.returns-in-1
 unfolding trailer_word
-returns-in-1 c = rw (c.in-1.is, files_32 c.args.kind)
+returns-in-1 g c = rw (c.in-1.is, files_32 g.L.Layout.kind)
 
 pub returns-in-2 : goal.returns-in-2
 unfolding trailer_word
-returns-in-2 c = rw c.in-2.is
+returns-in-2 g c = rw c.in-2.is
 
 pub returns-in-3 : goal.returns-in-3
 unfolding trailer_word
-returns-in-3 c = rw c.in-3.is c.mark.ensures
+returns-in-3 g c = rw (c.in-3.is, c.MARK.ensures) g.met.L.Layout.figures.mark
 
 pub returns-in_default : goal.returns-in_default
-returns-in_default c = other _ c.args.blocks c.args.j (omega arith) (omega arith) (omega arith)
+returns-in_default g c = other _ c.args.blocks c.args.j (omega arith) (omega arith) (omega arith)

@@ -9,20 +9,15 @@ use Rattle.boards.proofs.Trailing.{trailer_room, trailer_zeros, trailer_figures}
 use Rattle.boards.proofs.trailer_words_sound.Goals as goal
 
 pub returns-then-not-figures_sound : goal.returns-then-not-figures_sound
-returns-then-not-figures_sound c = let a = c.args in
-    trailer_figures (layout_of a.kind) (fits a.kind) a.board.now c.figures_sound.ensures (c.if-not-figures_sound.true)
+returns-then-not-figures_sound g c = let a = c.args in
+    trailer_figures (layout_of g.L.Layout.kind) (fits g.L.Layout.kind) a.board.now c.figures_sound.ensures (c.if-not-figures_sound.true)
 
 pub start_in-at-requires : goal.start_in-at-requires
 unfolding block_count
-start_in-at-requires c = let a = c.args in
-    rw c.last.ensures (omega (arith, words_pos a.kind, trailer_room a.kind (length a.board.now) (omega arith)))
-
-pub zeros-requires : goal.zeros-requires
-unfolding block_count
-zeros-requires c = let a = c.args in
-    rw (c.words_in.ensures.is, c.start_in-at.ensures, c.last.ensures) (trailer_room a.kind (length a.board.now) (omega arith))
+start_in-at-requires g c = let a = c.args in
+    rw c.last.ensures (omega (arith, words_pos g.L.Layout.kind, trailer_room g.L.Layout.kind (length a.board.now) (omega arith)))
 
 pub returns : goal.returns
-returns c = let a = c.args in let g = layout_of a.kind in
-    c.zeros.ensures ∙ trailer_zeros g (fits a.kind) a.board.now (rw (c.start_in-at.ensures, c.last.ensures)) c.words_in.ensures.is
+returns g c = let a = c.args in
+    c.zeros.ensures ∙ trailer_zeros (layout_of g.L.Layout.kind) (fits g.L.Layout.kind) a.board.now (rw (c.start_in-at.ensures, c.last.ensures)) c.words_in.ensures.is
     (sym c.figures_sound.ensures ∙ c.if-not-figures_sound.false)

@@ -37,69 +37,17 @@ fits bits board free grown u new own q =
 room : (W h : ℕ) {w l m : ℕ} → h ≢ 0 → W * h ≤ m → w ≡ W → l ≡ m → w + W * (h - 1) ≤ l
 room W h {w} {l} {m} tall enough wide same = omega (arith, Trees.page_room W h m tall enough)
 
-pub take_data-requires : goal.take_data-requires
-take_data-requires t c = let a = c.args in (c.requires.1, fits a.bits a.board.now a.free.now a.grown a.under a.new.now c.requires.3 c.requires.4)
-
 pub returns-then-h-eq0 : goal.returns-then-h-eq0
-returns-then-h-eq0 t c = Trees.leaf _ (pow_pos _) _ _ _ _ _ _ _ c.requires.3 c.if-h-eq0.true c.take_data.ensures
-
-pub place-requires : goal.place-requires
-place-requires t c = let a = c.args in (c.requires.0.width, omega (arith, fits a.bits a.board.now a.free.now a.grown a.under a.new.now c.requires.3 c.requires.4))
-
-pub overflow_add-result : goal.overflow_add-result
-overflow_add-result t c = let a = c.args in
-    omega (arith, c.tree_need.ensures.most, c.requires.0.spans, Taken.count_small a.grown.base (a.under.taken + 1) c.requires.0.width (fits a.bits a.board.now a.free.now a.grown a.under a.new.now c.requires.3 c.requires.4))
+returns-then-h-eq0 g t c = Trees.leaf _ (pow_pos _) _ _ _ _ _ _ _ c.requires.2 c.if-h-eq0.true c.take_data.ensures
 
 pub returns-then-o-eq0 : goal.returns-then-o-eq0
-returns-then-o-eq0 t c = Trees.counted (pow_pos _) _ _ _ _ _ _ c.place.ensures c.if-plan-place.true c.if-o-eq0.true c.tree_need.ensures.is
-
-pub span-s-requires : goal.span-s-requires
-span-s-requires t c = lower c.requires.0
+returns-then-o-eq0 g t c = Trees.counted (pow_pos _) _ _ _ _ _ _ c.place.ensures c.if-plan-place.true c.if-o-eq0.true c.tree_need.ensures.is
 
 pub loop-j-init : goal.loop-j-init
-loop-j-init t c = (omega arith, refl, Trees.start)
-
-pub overflow_mul-first : goal.overflow_mul-first
-overflow_mul-first t c = omega (arith, mul-le-mul c.loop-j-test.true c.span-s.ensures.high)
-
-pub part-own-requires : goal.part-own-requires
-part-own-requires t c = (omega (arith, c.span-s.ensures.high), omega (arith, c.width-w.ensures.most))
-
-pub child_touched-requires : goal.child_touched-requires
-child_touched-requires t c = let u = c.args.under in
-    (lower c.requires.0, λ none. omega (arith, ltb-false u.tree.left u.offset none, c.minus-m.ensures, c.minus-p.ensures))
-
-pub offset_bounds-pages-rest : goal.offset_bounds-pages-rest
-offset_bounds-pages-rest t c = omega (arith, room (2 ^ c.args.bits) c.args.under.tree.height c.if-h-eq0.false c.requires.2 c.width-w.ensures.is c.loop-j.invariant.1)
-
-pub slice_bounds-build_fresh-count : goal.slice_bounds-build_fresh-count
-slice_bounds-build_fresh-count t c = omega (arith, room (2 ^ c.args.bits) c.args.under.tree.height c.if-h-eq0.false c.requires.2 c.width-w.ensures.is c.loop-j.invariant.1)
-
-pub slice_bounds-build_fresh-start : goal.slice_bounds-build_fresh-start
-slice_bounds-build_fresh-start t c = omega (arith, room (2 ^ c.args.bits) c.args.under.tree.height c.if-h-eq0.false c.requires.2 c.width-w.ensures.is c.loop-j.invariant.1)
-
-pub build_fresh-taken-requires : goal.build_fresh-taken-requires
-build_fresh-taken-requires t c =
-    let fit = Trees.child_fits c.requires.3 c.if-h-eq0.false c.loop-j.invariant.2 c.requires.4 (omega (arith, c.loop-j-test.true, c.width-w.ensures.is))
-    c.span-s.ensures.is c.part-own.ensures c.link_on-x.ensures c.minus-m.ensures c.minus-p.ensures c.block_of.ensures in (
-      omega (arith, c.if-h-eq0.false),
-      (
-        lower c.requires.0,
-        c.requires.1,
-        rw (part_to_end c.loop-j.pages c.width-w.result, length-drop) (omega (arith, room (2 ^ c.args.bits) c.args.under.tree.height c.if-h-eq0.false c.requires.2 c.width-w.ensures.is c.loop-j.invariant.1)),
-        sym c.child_touched.ensures ∙ c.if-child_touched.true,
-        fit,
-      ),
-    )
-
-pub overflow_sub-taken : goal.overflow_sub-taken
-overflow_sub-taken t c = Trees.taken_some (pow_pos _) _ _ _ _ _ _ (sym c.child_touched.ensures ∙ c.if-child_touched.true) c.build_fresh-taken.ensures
-
-pub pointer-value-requires : goal.pointer-value-requires
-pointer-value-requires t c = (c.requires.0.width, c.requires.1.blocks)
+loop-j-init g t c = (refl, Trees.start)
 
 pub loop-j-preserved : goal.loop-j-preserved
-loop-j-preserved t c =
+loop-j-preserved g t c =
     let is = c.span-s.ensures.is in
     let test = sym c.child_touched.ensures in
     let stored = c.put.ensures in
@@ -107,40 +55,55 @@ loop-j-preserved t c =
     let pages = c.loop-j.pages in
     let rest = length pages - wide in
     let less = c.loop-j-test.true in
-    let r = room (2 ^ c.args.bits) c.args.under.tree.height c.if-h-eq0.false c.requires.2 c.width-w.ensures.is c.loop-j.invariant.1 in
+    let r = room (2 ^ g.B.BlockSize.BITS) c.args.under.tree.height c.if-h-eq0.false c.requires.1 c.width-w.ensures.is c.loop-j.invariant.0 in
     let fit : c.loop-j.j < length pages = omega (arith, r) in
     let same : Trees.Kept c.loop-j.j pages pages = Trees.untouched fit in
     elim c.if-child_touched.branch [
       | then-child_touched w ↦ let mine = w.build_fresh-taken.new.pages in let kept = Trees.lent rest pages mine less (omega arith) in
           rw (w.plan-is, w.taken-is) (
-            omega arith,
-            ap length stored ∙ simp length-set (rw w.pages-is (same_len_mid wide rest pages mine w.build_fresh-taken.auto.pages) ∙ c.loop-j.invariant.1),
-            Trees.fresh_child c.loop-j.invariant.2 is c.part-own.ensures c.link_on-x.ensures c.minus-m.ensures c.minus-p.ensures c.block_of.ensures kept (test ∙ w.if-child_touched.true) w.build_fresh-taken.ensures w.pointer-value.ensures.is (stored ∙ rw (w.pages-is, w.value-is)),
+            ap length stored ∙ simp length-set (rw w.pages-is (same_len_mid wide rest pages mine w.build_fresh-taken.auto.pages) ∙ c.loop-j.invariant.0),
+            Trees.fresh_child c.loop-j.invariant.1 is c.part-own.ensures c.link-x.ensures c.saturating_sub-p.ensures c.child-child.ensures kept (test ∙ w.if-child_touched.true) w.build_fresh-taken.ensures w.pointer-value.ensures.is (stored ∙ rw (w.pages-is, w.value-is)),
           )
       | else-child_touched+then-first-n w ↦ rw (w.plan-is, w.taken-is) (
-        omega arith,
-        ap length stored ∙ simp length-set (rw w.pages-is c.loop-j.invariant.1),
-        Trees.old_child c.loop-j.invariant.2 is c.part-own.ensures c.link_on-x.ensures c.minus-m.ensures c.minus-p.ensures c.block_of.ensures (test ∙ w.if-child_touched.false) same w.if-first-n.true (stored ∙ rw (w.pages-is, w.value-is)),
+        ap length stored ∙ simp length-set (rw w.pages-is c.loop-j.invariant.0),
+        Trees.old_child c.loop-j.invariant.1 is c.part-own.ensures c.link-x.ensures c.saturating_sub-p.ensures c.child-child.ensures (test ∙ w.if-child_touched.false) same w.if-first-n.true (stored ∙ rw (w.pages-is, w.value-is)),
       )
       | else-child_touched+else-first-n w ↦ rw (w.plan-is, w.taken-is) (
-        omega arith,
-        ap length stored ∙ simp length-set (rw w.pages-is c.loop-j.invariant.1),
-        Trees.dead_child c.loop-j.invariant.2 is c.part-own.ensures c.link_on-x.ensures c.minus-m.ensures c.minus-p.ensures c.block_of.ensures (test ∙ w.if-child_touched.false) same w.if-first-n.false (stored ∙ rw (w.pages-is, w.value-is)),
+        ap length stored ∙ simp length-set (rw w.pages-is c.loop-j.invariant.0),
+        Trees.dead_child c.loop-j.invariant.1 is c.part-own.ensures c.link-x.ensures c.saturating_sub-p.ensures c.child-child.ensures (test ∙ w.if-child_touched.false) same w.if-first-n.false (stored ∙ rw (w.pages-is, w.value-is)),
       )
     ]
 
-pub take-requires : goal.take-requires
-take-requires t c = (
-  c.requires.0.width,
-  c.requires.1.blocks,
-  Trees.node_fits c.requires.3 c.if-h-eq0.false c.loop-j.invariant.2 c.requires.4 (omega (arith, c.width-w.ensures.is)) (omega (arith, c.width-w.ensures.is)),
-)
-
-pub shape_of-plan : goal.shape_of-plan
-shape_of-plan t c = c.take.auto.plan ∙ Taken.same_length c.loop-j.invariant.2.took
-
-pub shape_of-pages : goal.shape_of-pages
-shape_of-pages t c = c.loop-j.invariant.1
-
 pub returns : goal.returns
-returns t c = Trees.node c.requires.3 c.if-h-eq0.false c.loop-j.invariant.2 (omega (arith, c.width-w.ensures.is)) (omega (arith, c.width-w.ensures.is)) c.take.ensures
+returns g t c = Trees.node c.requires.2 c.if-h-eq0.false c.loop-j.invariant.1 (omega (arith, c.width-w.ensures.is)) (omega (arith, c.width-w.ensures.is)) c.take.ensures
+
+pub take_data-requires : goal.take_data-requires
+take_data-requires g t c = let a = c.args in (fits g.B.BlockSize.BITS a.view.now.board.now a.view.now.free.now a.view.now.grown a.under a.new.now c.requires.2 c.requires.3)
+
+pub span-s-requires : goal.span-s-requires
+span-s-requires g t c = lower c.requires.0
+
+pub build_fresh-taken-requires : goal.build_fresh-taken-requires
+build_fresh-taken-requires g t c =
+    let fit = Trees.child_fits c.requires.2 c.if-h-eq0.false c.loop-j.invariant.1 c.requires.3 (omega (arith, c.loop-j-test.true, c.width-w.ensures.is))
+    c.span-s.ensures.is c.part-own.ensures c.link-x.ensures c.saturating_sub-p.ensures c.child-child.ensures in λ κs l. (
+      rw c.child-child.ensures (omega (arith, c.if-h-eq0.false)),
+      (
+        l,
+        (
+          rw c.child-child.ensures (lower c.requires.0),
+          rw (c.child-child.ensures, part_to_end c.loop-j.pages c.width-w.result, length-drop) (omega (arith, room (2 ^ g.B.BlockSize.BITS) c.args.under.tree.height c.if-h-eq0.false c.requires.1 c.width-w.ensures.is c.loop-j.invariant.0)),
+          sym c.child_touched.ensures ∙ c.if-child_touched.true,
+          fit,
+        ),
+      ),
+    )
+
+pub overflow_sub-taken : goal.overflow_sub-taken
+overflow_sub-taken g t c = Trees.taken_some (pow_pos _) _ _ _ _ _ _ (sym c.child_touched.ensures ∙ c.if-child_touched.true) c.build_fresh-taken.ensures
+
+pub take-requires : goal.take-requires
+take-requires g t c = (
+  c.args.view.now.pointers.blocks,
+  Trees.node_fits c.requires.2 c.if-h-eq0.false c.loop-j.invariant.1 c.requires.3 (omega (arith, c.width-w.ensures.is)) (omega (arith, c.width-w.ensures.is)),
+)

@@ -1,14 +1,15 @@
-use Prim.Native.Nat.{◌^◌}
-use Rattle.files.proofs.Bytes.{hole_zeros, all_words}
+use native.Mathlib.Omega.{arith}
+use Rattle.model.specs.Tree.{shown}
+use Rattle.words.proofs.Filling
+use Rattle.files.proofs.Whole
 use Rattle.files.proofs.copy.Goals as goal
 
-pub returns-in_default : goal.returns-in_default
-returns-in_default c = let a = c.args in
-    rw c.in_default.is (hole_zeros (2 ^ a.bits) a.board.now a.from c.clear.ensures)
+pub loop-b-init : goal.loop-b-init
+loop-b-init g c = Filling.none
 
-pub returns-then-n-eq0 : goal.returns-then-n-eq0
-returns-then-n-eq0 c = let a = c.args in
-    rw c.in-Block.is (all_words (2 ^ a.bits) a.board.now c.in-Block.k a.from a.n c.if-from-eq0.true c.if-n-eq0.true c.copy_words.ensures)
+pub loop-b-preserved : goal.loop-b-preserved
+unfolding shown
+loop-b-preserved g c = Filling.step c.loop-b.invariant (omega arith) (rw c.in-None.is)
 
-pub returns : goal.returns
-returns c = rw c.in-Block.is c.copy_bytes.ensures
+pub returns-after-loop-b : goal.returns-after-loop-b
+returns-after-loop-b g c = Whole.full (omega arith) c.loop-b.invariant

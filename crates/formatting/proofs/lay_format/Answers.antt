@@ -12,12 +12,12 @@ use Rattle.formatting.proofs.lay_format.Goals as goal
 
 pub start_in-at-requires : goal.start_in-at-requires
 unfolding block_count
-start_in-at-requires c = let a = c.args in rw c.last.ensures (omega (arith, words_pos a.kind, trailer_room a.kind (length a.board.now) (omega arith)))
+start_in-at-requires g c = let a = c.args in rw c.last.ensures (omega (arith, words_pos g.L.Layout.kind, trailer_room g.L.Layout.kind (length a.board.now) (omega arith)))
 
 pub returns : goal.returns
-returns c =
+returns g c =
     let a = c.args in
     let p : ℕ = c.trailer_place.result in
-    format_laid (layout_of a.kind) (fits a.kind) a.board.now a.plan.now p (p + c.words_in-w.result) c.last.ensures c.start_in-at.ensures
+    format_laid (layout_of g.L.Layout.kind) (fits g.L.Layout.kind) a.board.now a.plan.now p (p + c.words_in-w.result) c.last.ensures c.start_in-at.ensures
     (ap (λ (x : ℕ). x + 1) c.words_in-w.ensures.is) c.trailer_place.ensures.is (ap (λ (x : ℕ). p + x) c.words_in-w.ensures.is) c.pair.ensures c.barrier.ensures
     c.lay_pointers.ensures c.lay_leaves.ensures c.lay_trailer.ensures c.barrier-2.ensures c.pair-2.ensures

@@ -6,14 +6,14 @@ use Rattle.formatting.proofs.Formatting.{few_leaves, small_place}
 use Rattle.formatting.proofs.trailer_place.Goals as goal
 
 pub overflow_add-result : goal.overflow_add-result
-overflow_add-result c = omega (arith, c.leaf_count.ensures, few_leaves c.args.kind)
+overflow_add-result g c = omega (arith, c.LEAVES.ensures, g.met.L.Layout.figures.leaves, few_leaves g.L.Layout.kind)
 
 pub overflow_mul-result : goal.overflow_mul-result
-overflow_mul-result c =
-    let place : Place c.args.kind (2 + c.words_in.result * (1 + c.leaf_count.result)) = rw (c.words_in.ensures.is, c.leaf_count.ensures) (record { is = refl; most = small_place c.args.kind }) in
+overflow_mul-result g c =
+    let place : Place g.L.Layout.kind (2 + c.words_in.result * (1 + c.LEAVES.result)) = rw (c.words_in.ensures.is, c.LEAVES.ensures, g.met.L.Layout.figures.leaves) (record { is = refl; most = small_place g.L.Layout.kind }) in
     omega (arith, place.most)
 
 pub overflow_add-result-2 : goal.overflow_add-result-2
-overflow_add-result-2 c =
-    let place : Place c.args.kind (2 + c.words_in.result * (1 + c.leaf_count.result)) = rw (c.words_in.ensures.is, c.leaf_count.ensures) (record { is = refl; most = small_place c.args.kind }) in
+overflow_add-result-2 g c =
+    let place : Place g.L.Layout.kind (2 + c.words_in.result * (1 + c.LEAVES.result)) = rw (c.words_in.ensures.is, c.LEAVES.ensures, g.met.L.Layout.figures.leaves) (record { is = refl; most = small_place g.L.Layout.kind }) in
     omega (arith, place.most)

@@ -1,4 +1,4 @@
 use Rattle.growing.proofs.+levels.Given as goal
 
 abbrev pub decreases-levels : goal.decreases-levels
-decreases-levels l = l.d
+decreases-levels g l = l.d

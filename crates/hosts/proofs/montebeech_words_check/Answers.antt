@@ -1,6 +1,6 @@
 use Rattle.reading.proofs.Bounds.{check_small}
 use Rattle.forms.proofs.Answers.{as_signed}
-use Rattle.model.specs.declared.Kind.TheVariants.{House}
+use Rattle.model.specs.Layout.{House}
 use Rattle.hosts.proofs.montebeech_words_check.Goals as goal
 
 pub signed-requires : goal.signed-requires

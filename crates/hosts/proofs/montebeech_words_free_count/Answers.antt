@@ -1,7 +1,7 @@
 use native.Mathlib.Omega.{arith}
 use Rattle.reading.proofs.Bounds.{free_small}
 use Rattle.forms.proofs.Answers.{as_signed}
-use Rattle.model.specs.declared.Kind.TheVariants.{House}
+use Rattle.model.specs.Layout.{House}
 use Rattle.hosts.proofs.montebeech_words_free_count.Goals as goal
 
 pub signed-requires : goal.signed-requires

@@ -1,6 +1,6 @@
 use native.Mathlib.Omega.{arith}
 use Rattle.forms.proofs.Answers.{length_small, plan_signed}
-use Rattle.model.specs.declared.Kind.TheVariants.{House}
+use Rattle.model.specs.Layout.{House}
 use Rattle.hosts.proofs.montebeech_words_set_length.Goals as goal
 
 pub signed-requires : goal.signed-requires

@@ -1,6 +1,6 @@
 use native.Mathlib.Omega.{arith}
 use Rattle.forms.proofs.Answers.{write_small, plan_signed}
-use Rattle.model.specs.declared.Kind.TheVariants.{House}
+use Rattle.model.specs.Layout.{House}
 use Rattle.hosts.proofs.montebeech_words_write.Goals as goal
 
 pub signed-requires : goal.signed-requires

@@ -1,4 +1,4 @@
-use Prim.Native.Nat.{◌*◌, ◌-◌, ◌≤◌}
+use Prim.Native.Nat.{◌*◌}
 use Rattle.model.specs.Lists.{joined}
 use Rattle.model.specs.Layout.{house}
 use Rattle.model.specs.Lister.{file_line}
@@ -6,7 +6,4 @@ use Rattle.text.specs.Wrote.{Wrote}
 use Rattle.listing.proofs.files.Given as goal
 
 abbrev pub invariant-loop-f : goal.invariant-loop-f
-invariant-loop-f l = (l.f ≤ 32) × Wrote (106 * l.f) (joined l.f (file_line house l.board)) l.p l.initial.out l.q l.out
-
-abbrev pub decreases-loop-f : goal.decreases-loop-f
-decreases-loop-f l = 32 - l.f
+invariant-loop-f l = Wrote (106 * l.f) (joined l.f (file_line house l.board)) l.initial.text l.text

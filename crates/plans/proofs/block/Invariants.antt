@@ -1,5 +1,5 @@
 use mathlib.Core.Path.{◌≡◌}
-use Prim.Native.Nat.{◌+◌, ◌-◌, ◌*◌, ◌^◌, ◌≤◌}
+use Prim.Native.Nat.{◌+◌, ◌*◌, ◌^◌}
 use lib.ListN.{get_or}
 use Rattle.model.specs.Lists.{tabulate}
 use Rattle.model.specs.Store.{store, laid}
@@ -7,7 +7,4 @@ use Rattle.plans.proofs.block.Given as goal
 
 -- the first j stores are laid
 abbrev pub invariant-loop-j : goal.invariant-loop-j
-invariant-loop-j l = (l.j ≤ l.w) × (l.plan ≡ laid l.initial.plan l.p (tabulate l.j (λ i. store (2 ^ l.bits * l.k + i) (get_or l.page i 0))))
-
-abbrev pub decreases-loop-j : goal.decreases-loop-j
-decreases-loop-j l = l.w - l.j
+invariant-loop-j g l = l.plan ≡ laid l.initial.plan l.p (tabulate l.j (λ i. store (2 ^ g.B.BlockSize.BITS * l.k + i) (get_or l.page i 0)))

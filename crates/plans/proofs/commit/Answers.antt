@@ -6,9 +6,6 @@ use Rattle.plans.proofs.Laying as Laying
 use Rattle.plans.proofs.commit.Goals as goal
 use Rattle.plans.proofs.commit.Goals.{then-from-p, else-from-p}
 
-pub overflow_add-result : goal.overflow_add-result
-overflow_add-result c = elim c.if-from-p.branch [ then-from-p w ↦ omega arith | else-from-p w ↦ omega arith ]
-
 pub returns : goal.returns
 returns c =
     let a = c.args in
@@ -17,6 +14,3 @@ returns c =
       | then-from-p w ↦ Laying.fenced_commit (a.p - a.from) (store a.at a.value) last (omega arith) (w.plan-is ∙ w.barrier.ensures) w.q-is
       | else-from-p w ↦ Laying.bare_commit (a.p - a.from) (store a.at a.value) last (omega arith) w.plan-is w.q-is
     ]
-
-pub shape_of-plan : goal.shape_of-plan
-shape_of-plan c = Laying.same_length (returns c)

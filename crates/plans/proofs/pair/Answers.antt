@@ -6,9 +6,6 @@ use lib.Seq.{set_out}
 use Rattle.plans.proofs.Laying.{laid_one, laid_out}
 use Rattle.plans.proofs.pair.Goals as goal
 
-pub bounds-plan-p-then-p-n : goal.bounds-plan-p-then-p-n
-bounds-plan-p-then-p-n c = let a = c.args in simp length-set (omega (arith, c.if-p-n.true))
-
 pub returns-then-p-n : goal.returns-then-p-n
 returns-then-p-n c = let a = c.args in sym (laid_one a.plan.now a.p a.at a.value)
 

@@ -1,10 +1,10 @@
 use Rattle.reading.proofs.Bounds.{check_small}
 use Rattle.forms.proofs.Answers.{as_signed}
-use Rattle.model.specs.declared.Kind.TheVariants.{Published}
+use Rattle.model.specs.Layout.{Published}
 use Rattle.probes.proofs.probe_check.Goals as goal
 
 pub signed-requires : goal.signed-requires
-signed-requires c = check_small Published _ c.published_check.ensures
+signed-requires c = check_small Published _ c.check.ensures
 
 pub returns : goal.returns
-returns c = as_signed (record { sfits = c.signed.type_inv }) c.signed.ensures c.published_check.ensures
+returns c = as_signed (record { sfits = c.signed.type_inv }) c.signed.ensures c.check.ensures

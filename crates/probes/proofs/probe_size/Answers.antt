@@ -1,10 +1,10 @@
 use Rattle.reading.proofs.Bounds.{size_small}
 use Rattle.forms.proofs.Answers.{as_signed}
-use Rattle.model.specs.declared.Kind.TheVariants.{Published}
+use Rattle.model.specs.Layout.{Published}
 use Rattle.probes.proofs.probe_size.Goals as goal
 
 pub signed-requires : goal.signed-requires
-signed-requires c = size_small Published _ _ c.published_size.ensures
+signed-requires c = size_small Published _ _ c.size.ensures
 
 pub returns : goal.returns
-returns c = as_signed (record { sfits = c.signed.type_inv }) c.signed.ensures c.published_size.ensures
+returns c = as_signed (record { sfits = c.signed.type_inv }) c.signed.ensures c.size.ensures

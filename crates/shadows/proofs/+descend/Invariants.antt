@@ -1,4 +1,4 @@
 use Rattle.shadows.proofs.+descend.Given as goal
 
 abbrev pub decreases-descend : goal.decreases-descend
-decreases-descend l = l.spot.tree.height
+decreases-descend g l = l.spot.tree.height

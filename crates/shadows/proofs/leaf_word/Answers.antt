@@ -10,22 +10,19 @@ use Rattle.shadows.proofs.leaf_word.Goals as goal
 
 pub returns-then-j-slot : goal.returns-then-j-slot
 unfolding leaf_page copied_leaf replaced
-returns-then-j-slot c = let a = c.args in sym (rw (eq-eqb a.j (a.inode.at % 2 ^ a.bits) (c.if-j-slot.true ∙ c.low_of-slot.ensures)))
-
-pub overflow_add-slot : goal.overflow_add-slot
-overflow_add-slot c = omega (arith, c.low_of-slot.ensures, mod-lt c.args.inode.at (pow_pos c.args.bits), Widths.most c.requires.width)
+returns-then-j-slot g c = let a = c.args in sym (rw (eq-eqb a.j (a.inode.at % 2 ^ g.B.BlockSize.BITS) (c.if-j-slot.true ∙ c.low_of-slot.ensures)))
 
 pub returns-then-j-slot-2 : goal.returns-then-j-slot-2
 unfolding leaf_page copied_leaf replaced
-returns-then-j-slot-2 c = let a = c.args in let e = c.low_of-slot.ensures in
-    sym (rw (ne_eqb a.j (a.inode.at % 2 ^ a.bits) (rw e at c.if-j-slot.false), eq-eqb a.j (a.inode.at % 2 ^ a.bits + 1) (rw e at c.if-j-slot-2.true)))
+returns-then-j-slot-2 g c = let a = c.args in let e = c.low_of-slot.ensures in
+    sym (rw (ne_eqb a.j (a.inode.at % 2 ^ g.B.BlockSize.BITS) (rw e at c.if-j-slot.false), eq-eqb a.j (a.inode.at % 2 ^ g.B.BlockSize.BITS + 1) (rw e at c.if-j-slot-2.true)))
 
 pub returns : goal.returns
 unfolding leaf_page copied_leaf replaced
-returns c = let a = c.args in let e = c.low_of-slot.ensures in
+returns g c = let a = c.args in let e = c.low_of-slot.ensures in
     sym (rw (
-      ne_eqb a.j (a.inode.at % 2 ^ a.bits) (rw e at c.if-j-slot.false),
-      ne_eqb a.j (a.inode.at % 2 ^ a.bits + 1) (rw e at c.if-j-slot-2.false),
-      c.cell_on.ensures,
+      ne_eqb a.j (a.inode.at % 2 ^ g.B.BlockSize.BITS) (rw e at c.if-j-slot.false),
+      ne_eqb a.j (a.inode.at % 2 ^ g.B.BlockSize.BITS + 1) (rw e at c.if-j-slot-2.false),
+      c.cell.ensures,
       c.block_of.ensures,
     ))

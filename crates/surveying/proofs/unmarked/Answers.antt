@@ -20,16 +20,13 @@ module _ (m : List ℕ) {top k : ℕ} (l : k < top) {r : Bool} (er : r ≡ spare
   unfolding cons_if
   used_one e = ap length (pick_next k top (spare m) l) ∙ rw (sym er ∙ e)
 
-pub loop-k-init : goal.loop-k-init
-loop-k-init c = (omega arith, omega arith, omega arith)
-
 pub loop-k-preserved : goal.loop-k-preserved
 loop-k-preserved c = let m = c.args.marks.now in let t = c.loop-k-test.true in
     elim c.if-spare.branch [
-      | then-spare w ↦ rw w.count-is (omega arith, omega arith, omega (arith, free_one m t c.spare.ensures w.if-spare.true, c.loop-k.invariant.2))
-      | else-spare w ↦ rw w.count-is (omega arith, omega arith, omega (arith, used_one m t c.spare.ensures w.if-spare.false, c.loop-k.invariant.2))
+      | then-spare w ↦ rw w.count-is (omega arith, omega (arith, free_one m t c.spare.ensures w.if-spare.true, c.loop-k.invariant.1))
+      | else-spare w ↦ rw w.count-is (omega arith, omega (arith, used_one m t c.spare.ensures w.if-spare.false, c.loop-k.invariant.1))
     ]
 
 pub returns : goal.returns
 returns c = let a = c.args in
-    omega (arith, ap length (pick_none c.loop-k.k a.top (spare a.marks.now) c.loop-k-test.false), c.loop-k.invariant.2)
+    omega (arith, ap length (pick_none c.loop-k.k a.top (spare a.marks.now) c.loop-k-test.false), c.loop-k.invariant.1)

@@ -1,5 +1,5 @@
 use mathlib.Core.Path.{◌≡◌}
-use Prim.Native.Nat.{◌+◌, ◌-◌, ◌≤◌, ◌<◌}
+use Prim.Native.Nat.{◌+◌, ◌-◌, ◌<◌}
 use Prim.Native.Nat.{ℕ}
 use mathlib.Core.List.{List}
 use lib.ListN.{length}
@@ -12,7 +12,4 @@ abbrev pub ahead : List ℕ → ℕ → ℕ → ℕ
 ahead m top k = length (pick_from k (top - k) (spare m))
 
 abbrev pub invariant-loop-k : goal.invariant-loop-k
-invariant-loop-k l = (1 ≤ l.k) × (l.count < l.k) × (l.count + ahead l.marks l.top l.k ≡ ahead l.marks l.top 1)
-
-abbrev pub decreases-loop-k : goal.decreases-loop-k
-decreases-loop-k l = l.top - l.k
+invariant-loop-k l = (l.count < l.k) × (l.count + ahead l.marks l.top l.k ≡ ahead l.marks l.top 1)

@@ -6,10 +6,7 @@ use Rattle.tails.proofs.Padding as Padding
 use Rattle.tails.proofs.+in_place.Given as goal
 
 abbrev pub decreases-in_place : goal.decreases-in_place
-decreases-in_place l = l.end.tree.height
+decreases-in_place g l = l.end.tree.height
 
 abbrev pub invariant-loop-j : goal.invariant-loop-j
-invariant-loop-j l = Along (λ i. Padding.Done (2 ^ l.bits) (onto (2 ^ l.bits) l.free l.board l.grown) (hooks (2 ^ l.bits) l.free) (l.h - 1) l.k l.n l.l l.new l.c l.p l.initial.plan l.plan l.taken l.q i) l.s l.n l.w l.j
-
-abbrev pub decreases-loop-j : goal.decreases-loop-j
-decreases-loop-j l = l.w - l.j
+invariant-loop-j g l = Along (λ i. Padding.Done (2 ^ g.B.BlockSize.BITS) (onto (2 ^ g.B.BlockSize.BITS) l.view.free.now l.view.board.now l.view.grown) (hooks (2 ^ g.B.BlockSize.BITS) l.view.free.now) (l.h - 1) l.k l.n l.l l.new l.c l.p l.initial.plan l.plan l.taken l.q i) l.s l.n l.w l.j

@@ -20,32 +20,17 @@ needed : {bits h r : ℕ} (n l : ℕ) → Reach bits h → r ≡ tail_need (2 ^ 
 needed {bits} {h} n l reach e = record { is = e; most = omega (arith, e, tail_most (2 ^ bits) h n l, whole_small (2 ^ bits) (two reach) h) }
 
 pub returns-then-l-eq0 : goal.returns-then-l-eq0
-returns-then-l-eq0 t c = needed c.args.n c.args.l c.requires (sym (Tails.need_empty (2 ^ c.args.bits) c.args.h c.args.n c.args.l c.if-l-eq0.true))
-
-pub tree_need-requires : goal.tree_need-requires
-tree_need-requires t c = c.requires
+returns-then-l-eq0 g t c = needed c.args.n c.args.l c.requires (sym (Tails.need_empty (2 ^ g.B.BlockSize.BITS) c.args.h c.args.n c.args.l c.if-l-eq0.true))
 
 pub returns-then-n-eq0 : goal.returns-then-n-eq0
-returns-then-n-eq0 t c = needed c.args.n c.args.l c.requires (c.tree_need.ensures.is ∙ sym (Tails.need_dead (2 ^ c.args.bits) c.args.h c.args.n c.args.l c.if-n-eq0.true))
+returns-then-n-eq0 g t c = needed c.args.n c.args.l c.requires (c.tree_need.ensures.is ∙ sym (Tails.need_dead (2 ^ g.B.BlockSize.BITS) c.args.h c.args.n c.args.l c.if-n-eq0.true))
 
 pub returns-then-h-eq0 : goal.returns-then-h-eq0
-returns-then-h-eq0 t c = needed c.args.n c.args.l c.requires (sym (Tails.need_data (2 ^ c.args.bits) c.args.h c.args.n c.args.l c.if-h-eq0.true c.if-n-eq0.false))
-
-pub span-s-requires : goal.span-s-requires
-span-s-requires t c = lower c.requires
+returns-then-h-eq0 g t c = needed c.args.n c.args.l c.requires (sym (Tails.need_data (2 ^ g.B.BlockSize.BITS) c.args.h c.args.n c.args.l c.if-h-eq0.true c.if-n-eq0.false))
 
 pub loop-j-init : goal.loop-j-init
-loop-j-init t c = let a = c.args in let W : ℕ = 2 ^ a.bits in
+loop-j-init g t c = let a = c.args in let W : ℕ = 2 ^ g.B.BlockSize.BITS in
     Ends.begin (λ i. 0 ≡ tail_before W (a.h - 1) a.n a.l i) a.l (λ i e p. p ∙ Tails.before_skip W (a.h - 1) a.n a.l i c.span-s.ensures.is e) c.width-w.result (Tails.before_start _ _ _ _)
-
-pub overflow_mul-j : goal.overflow_mul-j
-overflow_mul-j t c = omega (arith, mul-le-mul c.loop-j-test.true c.span-s.ensures.high)
-
-pub part_length-own-requires : goal.part_length-own-requires
-part_length-own-requires t c = (omega (arith, c.span-s.ensures.high), omega (arith, c.loop-j-test.true, c.width-w.ensures.most))
-
-pub tail_need-count-requires : goal.tail_need-count-requires
-tail_need-count-requires t c = (omega arith, lower c.requires)
 
 -- all that is taken is a word
 small : {b h count : ℕ} (n l j m : ℕ) → Reach b h → h ≢ 0 → n ≢ 0 → j < 2 ^ b → count ≡ tail_before (2 ^ b) (h - 1) n l j
@@ -61,17 +46,10 @@ small {b} {h} n l j m reach high live less counted next = omega (
   reach.spans,
 )
 
-pub overflow_add-count : goal.overflow_add-count
-overflow_add-count t c =
-    let a = c.args in
-    let less : c.loop-j.j < 2 ^ a.bits = omega (arith, c.loop-j-test.true, c.width-w.ensures.is) in
-    let next = Tails.before_more (2 ^ a.bits) (a.h - 1) a.n a.l c.loop-j.j c.span-s.ensures.is c.minus-left.ensures c.part_length-own.ensures c.tail_need-count.ensures.is in
-    omega (arith, small a.n a.l c.loop-j.j c.tail_need-count.result c.requires c.if-h-eq0.false c.if-n-eq0.false less (Ends.here c.loop-j.invariant c.loop-j-test.true) next)
-
 pub loop-j-preserved : goal.loop-j-preserved
-loop-j-preserved t c =
+loop-j-preserved g t c =
     let a = c.args in
-    let next = Tails.before_more (2 ^ a.bits) (a.h - 1) a.n a.l c.loop-j.j c.span-s.ensures.is c.minus-left.ensures c.part_length-own.ensures c.tail_need-count.ensures.is in
+    let next = Tails.before_more (2 ^ g.B.BlockSize.BITS) (a.h - 1) a.n a.l c.loop-j.j c.span-s.ensures.is c.saturating_sub.ensures c.part_length-own.ensures c.tail_need-count.ensures.is in
     Ends.next c.loop-j.invariant c.loop-j-test.true (rw (Ends.here c.loop-j.invariant c.loop-j-test.true) next)
 
 -- what all children take is what the tree takes
@@ -79,11 +57,21 @@ tree : {b h w count : ℕ} (n l : ℕ) → Reach b h → h ≢ 0 → n ≢ 0 →
 tree {b} {h} n l reach high live ew e = needed n l reach (e ∙ ap (tail_before (2 ^ b) (h - 1) n l) ew ∙ sym (Tails.need_tree (2 ^ b) h n l high live))
 
 pub returns-then-own-eq0 : goal.returns-then-own-eq0
-returns-then-own-eq0 t c =
+returns-then-own-eq0 g t c =
     let z = c.span-s.ensures in
     let a = c.args in
     tree a.n a.l c.requires c.if-h-eq0.false c.if-n-eq0.false c.width-w.ensures.is
-    (Ends.over c.loop-j.invariant a.l (λ x e q. q ∙ Tails.before_skip (2 ^ a.bits) (a.h - 1) a.n a.l x z.is e) (omega (arith, z.low)) c.loop-j-test.true (sym c.part_length-own.ensures ∙ c.if-own-eq0.true))
+    (Ends.over c.loop-j.invariant a.l (λ x e q. q ∙ Tails.before_skip (2 ^ g.B.BlockSize.BITS) (a.h - 1) a.n a.l x z.is e) (omega (arith, z.low)) c.loop-j-test.true (sym c.part_length-own.ensures ∙ c.if-own-eq0.true))
 
 pub returns : goal.returns
-returns t c = tree c.args.n c.args.l c.requires c.if-h-eq0.false c.if-n-eq0.false c.width-w.ensures.is (Ends.done c.loop-j.invariant (omega arith))
+returns g t c = tree c.args.n c.args.l c.requires c.if-h-eq0.false c.if-n-eq0.false c.width-w.ensures.is (Ends.done c.loop-j.invariant (omega arith))
+
+pub span-s-requires : goal.span-s-requires
+span-s-requires g t c = lower c.requires
+
+pub overflow_add-count : goal.overflow_add-count
+overflow_add-count g t c =
+    let a = c.args in
+    let less : c.loop-j.j < 2 ^ g.B.BlockSize.BITS = omega (arith, c.loop-j-test.true, c.width-w.ensures.is) in
+    let next = Tails.before_more (2 ^ g.B.BlockSize.BITS) (a.h - 1) a.n a.l c.loop-j.j c.span-s.ensures.is c.saturating_sub.ensures c.part_length-own.ensures c.tail_need-count.ensures.is in
+    omega (arith, small a.n a.l c.loop-j.j c.tail_need-count.result c.requires c.if-h-eq0.false c.if-n-eq0.false less (Ends.here c.loop-j.invariant c.loop-j-test.true) next)

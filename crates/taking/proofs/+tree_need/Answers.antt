@@ -25,26 +25,23 @@ unfolding need
 one W h l low some = rw low (sym (fresh_data W [] 0 0 0 l (touched_new W 0 0 0 0 l (omega arith))))
 
 pub returns-then-l-eq0 : goal.returns-then-l-eq0
-returns-then-l-eq0 t c = needed c.args.l c.requires (rw c.if-l-eq0.true (sym (need_none (2 ^ c.args.bits) c.args.h 0)))
+returns-then-l-eq0 g t c = needed c.args.l c.requires (rw c.if-l-eq0.true (sym (need_none (2 ^ g.B.BlockSize.BITS) c.args.h 0)))
 
 pub returns-then-h-eq0 : goal.returns-then-h-eq0
-returns-then-h-eq0 t c = needed c.args.l c.requires (one (2 ^ c.args.bits) c.args.h c.args.l c.if-h-eq0.true c.if-l-eq0.false)
-
-pub span-s-requires : goal.span-s-requires
-span-s-requires t c = lower c.requires
+returns-then-h-eq0 g t c = needed c.args.l c.requires (one (2 ^ g.B.BlockSize.BITS) c.args.h c.args.l c.if-h-eq0.true c.if-l-eq0.false)
 
 pub returns-then-width-q : goal.returns-then-width-q
-returns-then-width-q t c =
-    let many : 2 ^ c.args.bits ≤ c.args.l / c.span-s.result = omega (arith, c.if-width-q.true, c.width.ensures.is) in
-    needed c.args.l c.requires (c.whole.ensures.is ∙ sym (need_full (2 ^ c.args.bits) (pow_pos c.args.bits) c.args.h c.args.l c.if-h-eq0.false c.span-s.ensures.is many))
-
-pub tree_need-requires : goal.tree_need-requires
-tree_need-requires t c = (omega arith, lower c.requires)
+returns-then-width-q g t c =
+    let many : 2 ^ g.B.BlockSize.BITS ≤ c.args.l / c.span-s.result = omega (arith, c.if-width-q.true, c.width.ensures.is) in
+    needed c.args.l c.requires (c.whole.ensures.is ∙ sym (need_full (2 ^ g.B.BlockSize.BITS) (pow_pos g.B.BlockSize.BITS) c.args.h c.args.l c.if-h-eq0.false c.span-s.ensures.is many))
 
 pub returns : goal.returns
-returns t c =
-    let less : c.args.l / c.span-s.result < 2 ^ c.args.bits = omega (arith, c.if-width-q.false, c.width.ensures.is) in
+returns g t c =
+    let less : c.args.l / c.span-s.result < 2 ^ g.B.BlockSize.BITS = omega (arith, c.if-width-q.false, c.width.ensures.is) in
     needed c.args.l c.requires (
     rw (c.whole-2.ensures.is, c.tree_need.ensures.is)
-    (sym (need_rest (2 ^ c.args.bits) (pow_pos c.args.bits) c.args.h c.args.l c.if-h-eq0.false c.span-s.ensures.is (omega (arith, c.if-l-eq0.false)) less))
+    (sym (need_rest (2 ^ g.B.BlockSize.BITS) (pow_pos g.B.BlockSize.BITS) c.args.h c.args.l c.if-h-eq0.false c.span-s.ensures.is (omega (arith, c.if-l-eq0.false)) less))
     )
+
+pub span-s-requires : goal.span-s-requires
+span-s-requires g t c = lower c.requires

@@ -1,4 +1,4 @@
 use Rattle.taking.proofs.+whole.Given as goal
 
 abbrev pub decreases-whole : goal.decreases-whole
-decreases-whole l = l.h
+decreases-whole g l = l.h

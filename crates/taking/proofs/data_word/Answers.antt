@@ -4,5 +4,5 @@ use Rattle.taking.proofs.Splicing.{data_word_law}
 use Rattle.taking.proofs.data_word.Goals as goal
 
 pub returns : goal.returns
-returns c = let a = c.args in
-    data_word_law (2 ^ a.bits) (onto (2 ^ a.bits) a.free.now a.board.now a.grown) a.tree.block a.tree.left a.o a.new.now a.j c.link_on.ensures c.spliced.ensures
+returns g c = let a = c.args in
+    data_word_law (2 ^ g.B.BlockSize.BITS) (onto (2 ^ g.B.BlockSize.BITS) a.view.now.free.now a.view.now.board.now a.view.now.grown) a.tree.block a.tree.left a.o a.new.now a.j c.link.ensures c.spliced.ensures

@@ -1,5 +1,5 @@
 use mathlib.Core.Path.{◌≡◌}
-use Prim.Native.Nat.{◌+◌, ◌-◌, ◌*◌, ◌≤◌}
+use Prim.Native.Nat.{◌+◌, ◌*◌}
 use lib.ListN.{get_or}
 use Rattle.model.specs.Lists.{tabulate}
 use Rattle.model.specs.Words.{word_of}
@@ -7,7 +7,4 @@ use Rattle.model.specs.Store.{store, laid}
 use Rattle.taking.proofs.lay_new.Given as goal
 
 abbrev pub invariant-loop-j : goal.invariant-loop-j
-invariant-loop-j l = (l.j ≤ l.w) × (l.plan ≡ laid l.initial.plan l.p (tabulate l.j (λ i. store (l.to + i) (word_of 8 (λ t. get_or l.new (8 * i + t) 0)))))
-
-abbrev pub decreases-loop-j : goal.decreases-loop-j
-decreases-loop-j l = l.w - l.j
+invariant-loop-j l = l.plan ≡ laid l.initial.plan l.p (tabulate l.j (λ i. store (l.to + i) (word_of 8 (λ t. get_or l.new (8 * i + t) 0))))

@@ -14,9 +14,9 @@ use Rattle.taking.proofs.pointer.Goals as goal
 address : {b k : ℕ} (i : ℕ) {free : List ℕ} → Width b → Blocks free → k ≡ get_or free i 0 → 2 ^ b * k + 512 ≤ 2 ^ 63
 address i w blocks e = Widths.address w (Taken.block_small i blocks e)
 
-pub start_of-requires : goal.start_of-requires
-start_of-requires c = (search rules, omega (arith, address c.args.i c.requires.0 c.requires.1 c.word.ensures))
-
 pub returns : goal.returns
 unfolding taking
-returns c = record { is = rw (c.start_of.ensures, c.word.ensures); small = rw c.start_of.ensures (address c.args.i c.requires.0 c.requires.1 c.word.ensures) }
+returns g c = record { is = rw (c.start_of.ensures, c.word.ensures); small = rw c.start_of.ensures (address c.args.i g.B.BlockSize.width c.requires c.word.ensures) }
+
+pub start_of-requires : goal.start_of-requires
+start_of-requires g c = omega (arith, address c.args.i g.B.BlockSize.width c.requires c.word.ensures)

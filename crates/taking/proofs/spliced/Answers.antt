@@ -1,5 +1,8 @@
+use borrow.Author.Rules.{rules}
 use native.Mathlib.Omega.{arith}
-use Rattle.taking.proofs.Splicing.{word_new, word_kept, word_gone, none, one_more, room, whole}
+use mathlib.Core.Path.{◌∙◌}
+use Rattle.taking.specs.Taking.{spliced_byte}
+use Rattle.taking.proofs.Splicing.{word_new, word_kept, word_gone, le_word}
 use Rattle.taking.proofs.spliced.Goals as goal
 
 pub returns-then-first-n : goal.returns-then-first-n
@@ -17,19 +20,7 @@ returns-then-d-new c =
     let a = c.args in
     word_new a.x a.n a.o a.new.now a.j c.if-o-first.true c.if-d-new.true c.word_at.ensures
 
-pub loop-i-init : goal.loop-i-init
-loop-i-init c = (omega arith, none)
-
-pub overflow_mul-value : goal.overflow_mul-value
-overflow_mul-value c = omega (arith, room c.loop-i.invariant.1 c.loop-i-test.true)
-
-pub overflow_add-value : goal.overflow_add-value
-overflow_add-value c = omega (arith, room c.loop-i.invariant.1 c.loop-i-test.true)
-
-pub loop-i-preserved : goal.loop-i-preserved
-loop-i-preserved c =
-    let r = c.spliced_byte.ensures in
-    (omega arith, one_more c.loop-i.invariant.1 c.loop-i-test.true c.loop-i.invariant.0 r.is r.small)
-
 pub returns : goal.returns
-returns c = whole c.loop-i.invariant.1 c.loop-i-test.false
+returns c =
+    let a = c.args in
+    c.from_le_bytes.ensures ∙ le_word c.from_fn.result (spliced_byte a.x a.n a.o a.new.now a.j) (λ i l. let h = c.from_fn.ensures.items.at i 0 l in search rules)

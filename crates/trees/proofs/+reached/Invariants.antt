@@ -1,4 +1,4 @@
 use Rattle.trees.proofs.+reached.Given as goal
 
 abbrev pub decreases-reached : goal.decreases-reached
-decreases-reached l = l.h
+decreases-reached g l = l.h

@@ -6,21 +6,21 @@ use Rattle.model.specs.Board.{root_walk}
 use Rattle.trees.proofs.root_walk.Goals as goal
 
 pub span-requires : goal.span-requires
-span-requires c = rw c.low_of-h.ensures c.requires
+span-requires g c = rw c.low_of-h.ensures c.requires
 
 pub returns-then-span-i : goal.returns-then-span-i
 unfolding root_walk
-returns-then-span-i c = let a = c.args in
-    rw (le-ltb a.i (span (2 ^ a.bits) (a.root % 2 ^ a.bits)) (rw (c.span.ensures.is, c.low_of-h.ensures) at c.if-span-i.true))
+returns-then-span-i g c = let a = c.args in
+    rw (le-ltb a.i (span (2 ^ g.B.BlockSize.BITS) (a.root % 2 ^ g.B.BlockSize.BITS)) (rw (c.span.ensures.is, c.low_of-h.ensures) at c.if-span-i.true))
 
 pub walk-requires : goal.walk-requires
-walk-requires c = rw c.low_of-h.ensures c.requires
+walk-requires g c = rw c.low_of-h.ensures c.requires
 
 pub returns : goal.returns
 unfolding root_walk
-returns c = let a = c.args in
+returns g c = let a = c.args in
     c.walk.ensures ∙ rw (
       c.block_of.ensures,
       c.low_of-h.ensures,
-      lt-ltb a.i (span (2 ^ a.bits) (a.root % 2 ^ a.bits)) (rw (c.span.ensures.is, c.low_of-h.ensures) at c.if-span-i.false),
+      lt-ltb a.i (span (2 ^ g.B.BlockSize.BITS) (a.root % 2 ^ g.B.BlockSize.BITS)) (rw (c.span.ensures.is, c.low_of-h.ensures) at c.if-span-i.false),
     )

@@ -5,7 +5,7 @@ use Prim.Native.Nat.{ℕ, ◌/◌, ◌%◌, ◌^◌}
 use native.Mathlib.Omega.{arith}
 use lib.Dec.{eqb}
 use borrow.Author.Tests.{eqb-true}
-use Rattle.model.specs.declared.Kind.{Kind}
+use Rattle.model.specs.Layout.{Kind}
 use Rattle.model.specs.Layout.{layout_of}
 use Rattle.model.specs.InPlace.{at_block, walk_live}
 use Rattle.model.proofs.Cases.{true_left}
@@ -25,33 +25,23 @@ tested wide c root o size e = rw wide.is e
 
 -- the file is empty
 pub returns-then-s-eq0 : goal.returns-then-s-eq0
-returns-then-s-eq0 c = let a = c.args in
-    Ways.same_plan (Ways.chosen_empty (layout_of a.target.kind) (onto (2 ^ a.bits) a.free.now a.board.now a.grown) a.target.inode a.target.offset a.new.now a.free.now a.grown.levels c.if-s-eq0.true) c.fill_empty.ensures
-
-pub is_tail-requires : goal.is_tail-requires
-is_tail-requires c = (reach c.args.target.kind c.requires.pages.wide (ReadyWrites.root_height_law c.requires (omega arith) refl), c.requires.pointers)
-
--- a tail begins at the size
-pub append-requires : goal.append-requires
-append-requires c = (omega arith, ReadyWrites.ready_at (eqb-true _ _ (true_left _ _ (sym c.is_tail.ensures ∙ c.if-is_tail.true))) c.requires)
+returns-then-s-eq0 g c = let a = c.args in
+    Ways.same_plan (Ways.chosen_empty (layout_of g.L.Layout.kind) (onto (2 ^ g.L.BlockSize.BITS) a.view.now.free.now a.view.now.board.now a.view.now.grown) a.target.inode a.target.offset a.new.now a.view.now.free.now a.view.now.grown.levels c.if-s-eq0.true) c.fill_empty.ensures
 
 pub returns-then-is_tail : goal.returns-then-is_tail
-returns-then-is_tail c = let a = c.args in
-    Ways.same_plan (Ways.chosen_tail (layout_of a.target.kind) (onto (2 ^ a.bits) a.free.now a.board.now a.grown) a.target.inode a.target.offset a.new.now a.free.now a.grown.levels c.if-s-eq0.false (tested c.requires.pages.wide _ _ _ _ c.is_tail.ensures) (eqb-true _ _ (true_left _ _ (sym c.is_tail.ensures ∙ c.if-is_tail.true))) c.if-is_tail.true) c.append.ensures
-
-pub overflow_add-o : goal.overflow_add-o
-overflow_add-o c = omega (arith, c.requires.end, small_sizes c.args.target.kind)
-
-pub shadow_inside-requires : goal.shadow_inside-requires
-shadow_inside-requires c = (omega arith, c.requires)
+returns-then-is_tail g c = let a = c.args in
+    Ways.same_plan (Ways.chosen_tail (layout_of g.L.Layout.kind) (onto (2 ^ g.L.BlockSize.BITS) a.view.now.free.now a.view.now.board.now a.view.now.grown) a.target.inode a.target.offset a.new.now a.view.now.free.now a.view.now.grown.levels c.if-s-eq0.false (tested c.requires.pages.wide _ _ _ _ c.is_tail.ensures) (eqb-true _ _ (true_left _ _ (sym c.is_tail.ensures ∙ c.if-is_tail.true))) c.if-is_tail.true) c.append.ensures
 
 pub returns-then-o-new : goal.returns-then-o-new
-returns-then-o-new c = let a = c.args in
-    Ways.same_plan (Ways.chosen_inside (layout_of a.target.kind) (onto (2 ^ a.bits) a.free.now a.board.now a.grown) a.target.inode a.target.offset a.new.now a.free.now a.grown.levels c.if-s-eq0.false (tested c.requires.pages.wide _ _ _ _ c.is_tail.ensures) c.if-is_tail.false c.if-o-new.true) c.shadow_inside.ensures
-
-pub shadow_with_length-requires : goal.shadow_with_length-requires
-shadow_with_length-requires c = (omega arith, c.requires)
+returns-then-o-new g c = let a = c.args in
+    Ways.same_plan (Ways.chosen_inside (layout_of g.L.Layout.kind) (onto (2 ^ g.L.BlockSize.BITS) a.view.now.free.now a.view.now.board.now a.view.now.grown) a.target.inode a.target.offset a.new.now a.view.now.free.now a.view.now.grown.levels c.if-s-eq0.false (tested c.requires.pages.wide _ _ _ _ c.is_tail.ensures) c.if-is_tail.false c.if-o-new.true) c.shadow_inside.ensures
 
 pub returns : goal.returns
-returns c = let a = c.args in
-    Ways.same_plan (Ways.chosen_past (layout_of a.target.kind) (onto (2 ^ a.bits) a.free.now a.board.now a.grown) a.target.inode a.target.offset a.new.now a.free.now a.grown.levels c.if-s-eq0.false (tested c.requires.pages.wide _ _ _ _ c.is_tail.ensures) c.if-is_tail.false c.if-o-new.false) c.shadow_with_length.ensures
+returns g c = let a = c.args in
+    Ways.same_plan (Ways.chosen_past (layout_of g.L.Layout.kind) (onto (2 ^ g.L.BlockSize.BITS) a.view.now.free.now a.view.now.board.now a.view.now.grown) a.target.inode a.target.offset a.new.now a.view.now.free.now a.view.now.grown.levels c.if-s-eq0.false (tested c.requires.pages.wide _ _ _ _ c.is_tail.ensures) c.if-is_tail.false c.if-o-new.false) c.shadow_with_length.ensures
+
+pub is_tail-requires : goal.is_tail-requires
+is_tail-requires g c = reach g.L.Layout.kind c.requires.pages.wide (ReadyWrites.root_height_law c.requires (omega arith) refl)
+
+pub overflow_add-o : goal.overflow_add-o
+overflow_add-o g c = omega (arith, c.requires.end, small_sizes g.L.Layout.kind)

@@ -1,15 +1,9 @@
-use mathlib.Core.Path.{◌≡◌, refl}
-use native.Mathlib.Omega.{arith}
-use Rattle.words.proofs.Filling
+use mathlib.Core.Path.{◌∙◌, ap}
+use mathlib.Core.List.{List, ◌++◌}
+use Prim.Native.Nat.{ℕ}
+use lib.ListN.{drop}
+use Rattle.words.proofs.Endian.{le_bytes}
 use Rattle.words.proofs.spread.Goals as goal
 
-pub loop-i-init : goal.loop-i-init
-loop-i-init c = (omega arith, refl, Filling.none)
-
-pub loop-i-preserved : goal.loop-i-preserved
-loop-i-preserved c =
-    let next = Filling.step c.loop-i.invariant.2 (omega arith) c.byte.ensures in
-    (omega arith, Filling.same_length next (omega arith), next)
-
 pub returns : goal.returns
-returns c = let e : c.loop-i.i ≡ 8 = omega arith in rw e at c.loop-i.invariant.2
+returns c = record { is = ap (λ (l : List ℕ). l ++ drop 8 c.args.out.now) (c.copy_from_slice.ensures.after ∙ c.to_le_bytes.ensures ∙ le_bytes c.args.x) }

@@ -2,4 +2,4 @@ use Rattle.words.proofs.Widths as Widths
 use Rattle.words.proofs.width.Goals as goal
 
 pub returns : goal.returns
-returns c = Widths.wide c.requires
+returns g c = rw c.BITS.ensures (Widths.wide g.B.BlockSize.width)

@@ -1,5 +1,0 @@
-use Rattle.surveying.proofs.check_kind.Goals as goal
-
--- search finds this too; written out, another answer is refused by what it differs in
-pub returns : goal.returns
-returns c = c.survey.ensures.answer
