@@ -1,11 +1,11 @@
 -- The board of an image answers what the image is to answer.
-use mathlib.Core.Path.{◌≡◌, refl}
+use mathlib.Core.Path.{◌≡◌, refl, ap}
 use mathlib.Core.Logic.{◌⊎◌, inl, inr}
 use mathlib.Core.Bool.{Bool, true, false, not, and-false}
 use mathlib.Core.List.{List, [], ◌∷◌, ◌++◌}
 use Prim.Native.Nat.{ℕ, ◌+◌, ◌*◌, ◌/◌, ◌%◌, ◌≤◌, ◌<◌}
 use native.Mathlib.Omega.{arith}
-use lib.ListN.{length, get_or, take, drop}
+use lib.ListN.{length, get_or, drop, length-append}
 use lib.Seq.{take_at}
 use lib.Dec.{leb, eqb}
 use borrow.Author.Tests.{leb-false, eqb-true, lt-leb, le-leb, eq-eqb, ne_eqb}
@@ -18,27 +18,30 @@ use Rattle.model.specs.Answers.{Faults, answered}
 use Rattle.model.specs.Calls.{word_count_fault, board_faults, file_faults, check_answer}
 use Rattle.model.specs.Cabinet.{image_faults, image_check_answer}
 use Rattle.model.proofs.Perform.{length_tabulate}
-use Rattle.images.specs.Images.{board_of}
+use Rattle.images.specs.Images.{board_of, Loaded}
 
 module _ (image : List ℕ) where
   length_words : length (words_of image) ≡ length image / 8
   unfolding words_of
   length_words = length_tabulate (length image / 8) (λ w. word_of 8 (λ i. get_or image (8 * w + i) 0))
 
-  -- the ways out of `load`
-  pub part_of_word : (length image % 8 ≡ 0 → ⊥) → [] ≡ board_of image
+  -- the ways out of `load_words`
+  pub part_of_word : {words : List ℕ} → (length image % 8 ≡ 0 → ⊥) → Loaded image 0 words
   unfolding board_of
-  part_of_word h = rw (ne_eqb (length image % 8) 0 h)
+  part_of_word h = record { within = omega arith; board = rw (ne_eqb (length image % 8) 0 h) }
 
-  pub too_long : 65536 < length image → [] ≡ board_of image
+  pub too_long : {words : List ℕ} → 65536 < length image → Loaded image 0 words
   unfolding board_of
-  too_long h = rw (lt-leb (length image) 65536 h, and-false)
+  too_long h = record { within = omega arith; board = rw (lt-leb (length image) 65536 h, and-false) }
 
   pub decoded : (old : List ℕ) {words : List ℕ} → length image % 8 ≡ 0 → length image ≤ 65536 →
-      words ≡ words_of image ++ drop (length image / 8) old → take (length image / 8) words ≡ board_of image
+      words ≡ words_of image ++ drop (length image / 8) old → Loaded image (length image / 8) words
   unfolding board_of
-  decoded old e h w =
-      rw (w, eq-eqb (length image % 8) 0 e, le-leb (length image) 65536 h) (take_at (words_of image) (drop (length image / 8) old) (length image / 8) length_words)
+  decoded old e h w = record {
+    within = omega (arith, length_words, ap length w, length-append (words_of image) (drop (length image / 8) old));
+    board = rw (w, eq-eqb (length image % 8) 0 e, le-leb (length image) 65536 h)
+        (take_at (words_of image) (drop (length image / 8) old) (length image / 8) length_words);
+  }
 
   -- An image is read as its words, where its byte count is not refused; or as no words, where it is refused for its byte count or for its word count.
   abbrev Whole : Type 0

@@ -8,7 +8,7 @@ ghost use Rattle.model.specs.Board.{greatest};
 ghost use Rattle.kinds.specs.Figures.{Figures, Words, house_kind, published_kind, house_width, house_figures, published_width, published_figures};
 
 use bands::least_height;
-use words::{BlockSize, block_of, low_of, start_of, width};
+use words::{BlockSize, block_of, low, low_of, start_of, width, without_low};
 
 // A kind of board, told by a type: code for each kind is compiled apart.
 pub trait Layout: BlockSize {
@@ -53,9 +53,11 @@ pub trait Layout: BlockSize {
 }
 
 // document 01's board, with blocks of 8 words
+#[derive(Clone, Copy)]
 pub struct House;
 
 // N11 of document 02: a board with the published block, of 512 words
+#[derive(Clone, Copy)]
 pub struct Published;
 
 impl BlockSize for House {
@@ -139,10 +141,17 @@ impl Layout for Published {
     ghost figures = { published_figures };
 
     fn least_height(e: u64) -> u64 {
-        match e {
-            0..=4096 => 0,
-            _ => 1,
-        }
+        published_height(e)
+    }
+}
+
+// The least height whose tree spans e bytes, with the published block: no tree is taller than 1.
+fn published_height(e: u64) -> u64
+    ensures { result ≡ least 512 1 e }
+{
+    match e {
+        0..=4096 => 0,
+        _ => 1,
     }
 }
 
@@ -179,12 +188,12 @@ pub fn start_in<L: Layout>(k: u64) -> u64
 pub fn leaf_in<L: Layout>(file: u64) -> u64
     ensures { result ≡ file / (layout_of L.kind).inodes }
 {
-    file >> L::INODE_BITS
+    without_low(L::INODE_BITS, file)
 }
 
 // Which of the leaf's inodes is a file's.
 pub fn inode_in<L: Layout>(file: u64) -> u64
     ensures { result ≡ file % (layout_of L.kind).inodes }
 {
-    file % (1 << L::INODE_BITS)
+    low(L::INODE_BITS, file)
 }

@@ -42,18 +42,42 @@ pub fn width<B: BlockSize>() -> u64
     1 << B::BITS
 }
 
+// What is left of a word without so many low bits.
+pub fn without_low(bits: u64, x: u64) -> u64
+    requires { bits < 64 }
+    ensures { result ≡ x / 2 ^ bits }
+{
+    x >> bits
+}
+
+// These low bits.
+pub fn low(bits: u64, x: u64) -> u64
+    requires { bits < 64 }
+    ensures { result ≡ x % 2 ^ bits }
+{
+    x % (1 << bits)
+}
+
+// A number with so many low bits behind it, all 0.
+pub fn raised(bits: u64, x: u64) -> u64
+    requires { (bits < 64) × (2 ^ bits * x < 2 ^ 64) }
+    ensures { result ≡ 2 ^ bits * x }
+{
+    x << bits
+}
+
 // The block of a pointer: what is left of it without its low bits.
 pub fn block_of<B: BlockSize>(p: u64) -> u64
     ensures { result ≡ p / 2 ^ B.BITS }
 {
-    p >> B::BITS
+    without_low(B::BITS, p)
 }
 
 // The low bits of a pointer.
 pub fn low_of<B: BlockSize>(p: u64) -> u64
     ensures { result ≡ p % 2 ^ B.BITS }
 {
-    p % (1 << B::BITS)
+    low(B::BITS, p)
 }
 
 // Where block k begins: the pointer to it.
@@ -61,7 +85,7 @@ pub fn start_of<B: BlockSize>(k: u64) -> u64
     requires { 2 ^ B.BITS * k < 2 ^ 64 }
     ensures { result ≡ 2 ^ B.BITS * k }
 {
-    k << B::BITS
+    raised(B::BITS, k)
 }
 
 // Word j of block k. A block that begins past the end is told by its number: where it would begin may be no word.

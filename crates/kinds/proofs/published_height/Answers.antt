@@ -2,7 +2,7 @@ use Prim.Native.Nat.{◌≤◌, ◌<◌}
 use native.Mathlib.Omega.{arith}
 use borrow.Author.Tests.{le-leb, lt-leb}
 use Rattle.model.specs.Tree.{span, least}
-use Rattle.kinds.proofs.PublishedLayout.least_height.Goals as goal
+use Rattle.kinds.proofs.published_height.Goals as goal
 
 pub returns-in-0-to-4096 : goal.returns-in-0-to-4096
 unfolding least span

@@ -1,6 +1,6 @@
 use Rattle.images.proofs.Boards.{part_of_word, too_long, decoded}
-use Rattle.images.proofs.load.Goals as goal
-use Rattle.images.proofs.load.Goals.{then-n-ne0-via-then-n-ne0, then-n-ne0-via-else-n-ne0+then-n-gt65536}
+use Rattle.images.proofs.load_words.Goals as goal
+use Rattle.images.proofs.load_words.Goals.{then-n-ne0-via-then-n-ne0, then-n-ne0-via-else-n-ne0+then-n-gt65536}
 
 pub returns-then-n-ne0 : goal.returns-then-n-ne0
 returns-then-n-ne0 c = elim c.then-n-ne0.branch [
