@@ -66,26 +66,7 @@ module _ (W : ℕ) (fresh : ℕ → ℕ) where
       ∙ performed_away (performed b (stored W fresh (tabulate d f) 0)) (tabulate W (page_store W (fresh d) (f d))) x (page_away x (fresh d) (f d) (λ e. none d (omega arith) (sym e)))
       ∙ levels_none b f x d (λ i l. none i (omega arith))
 
-  -- and by the last of them that is
-  levels_last : 0 < W → (b : List ℕ) (f : ℕ → Page) (x : ℕ) → x < length b → (d i : ℕ) → i < d → fresh i ≡ x / W → ((j : ℕ) → i < j → j < d → fresh j ≢ x / W)
-      → get_or (performed b (stored W fresh (tabulate d f) 0)) x 0 ≡ f i (x % W)
-  unfolding stored tabulate
-  levels_last pos b f x on zero i l e after = absurd (omega arith)
-  levels_last pos b f x on (suc d) i l e after =
-      let before = stored W fresh (tabulate d f) 0 in
-      let c = performed b before in
-      let page = tabulate W (page_store W (fresh d) (f d)) in
-      ap (λ (l : List ℕ). get_or l x 0) (performed_more b f d) ∙ (elim (decide d i) [
-        | inl z ↦
-            let at : W * fresh d + x % W ≡ x = rw (z, e) (omega (arith, div-add-mod' x W, mul_comm W (x / W))) in
-            let hit : get_or (performed c page) (W * fresh d + x % W) 0 ≡ f d (x % W) =
-            page_word c (fresh d) (f d) W (x % W) (mod-lt x pos) (rw (length_performed b before) (omega (arith, at, on))) in
-            rw at at hit ∙ ap (λ (k : ℕ). f k (x % W)) z
-        | inr n ↦
-            performed_away c page x (page_away x (fresh d) (f d) (λ z. after d (omega arith) (omega arith) (sym z))) ∙ levels_last pos b f x on d i (omega arith) e (λ j u v. after j u (omega arith))
-      ])
-
-  -- the same by the level in which it lies, counted from 1
+  -- word x by the level in which it lies, counted from 1
   abbrev word_in_level : (b : List ℕ) (f : ℕ → Page) (x d : ℕ) → ℕ
   word_in_level b f x d = let t = level_of fresh d (x / W) in choose t (get_or b x 0) (f (t - 1) (x % W))
 
@@ -104,6 +85,20 @@ module _ (W : ℕ) (fresh : ℕ → ℕ) where
             rw (eq-eqb (fresh d) (x / W) e, sub-one) (rw at at hit)
         | inr n ↦ rw (ne_eqb (fresh d) (x / W) n) (performed_away c page x (page_away x (fresh d) (f d) (λ e. n (sym e))) ∙ levels_word pos b f x on d)
       ])
+
+  level_last : (k d i : ℕ) → i < d → fresh i ≡ k → ((j : ℕ) → i < j → j < d → fresh j ≢ k) → level_of fresh d k ≡ suc i
+  unfolding level_of
+  level_last k zero i l e after = absurd (omega arith)
+  level_last k (suc d) i l e after = elim (decide d i) [
+    | inl z ↦ rw (eq-eqb (fresh d) k (ap fresh z ∙ e), z)
+    | inr n ↦ rw (ne_eqb (fresh d) k (after d (omega arith) (omega arith))) (level_last k d i (omega arith) e (λ j u v. after j u (omega arith)))
+  ]
+
+  -- word x by the last of the levels that has its block
+  levels_last : 0 < W → (b : List ℕ) (f : ℕ → Page) (x : ℕ) → x < length b → (d i : ℕ) → i < d → fresh i ≡ x / W → ((j : ℕ) → i < j → j < d → fresh j ≢ x / W)
+      → get_or (performed b (stored W fresh (tabulate d f) 0)) x 0 ≡ f i (x % W)
+  unfolding choose
+  levels_last pos b f x on d i l e after = levels_word pos b f x on d ∙ rw (level_last (x / W) d i l e after, sub-one)
 
 -- ---- onto
 

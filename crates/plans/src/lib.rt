@@ -33,7 +33,8 @@ pub fn barrier(plan: &mut [u64], p: u64)
     pair(plan, p, 18446744073709551615, 0);
 }
 
-// Lays the stores of block k, in word order, from place p on: the words of a page.
+// Lays the stores of block k, in word order, from place p on: the words of a page. Compiled into format, where the page is known, without a test.
+#[inline(always)]
 pub fn block<B: BlockSize>(plan: &mut [u64], p: u64, k: u64, page: &[u64])
     requires { k < 2 ^ 54 }
     ensures { plan.new ≡ laid plan.old p (block_stores (2 ^ B.BITS) k page.now) }
@@ -118,6 +119,19 @@ pub struct View<'a, B: BlockSize> {
 }
 
 impl<B: BlockSize> View<'_, B> {
+    // The same view once more. A loop that lays stores keeps the parts of one of its own in registers; it would read those of a lent one anew for each store.
+    #[inline(always)]
+    pub fn again(&self) -> View<'_, B>
+        ensures { (result.board.now ≡ self.now.board.now) × (result.free.now ≡ self.now.free.now) × (result.grown ≡ self.now.grown) }
+    {
+        View {
+            board: self.board,
+            free: self.free,
+            grown: self.grown,
+            size: PhantomData,
+        }
+    }
+
     // The word at an index of the board with growth performed.
     pub fn word(&self, at: u64) -> u64
         ensures { result ≡ get_or (onto (2 ^ B.BITS) self.now.free.now self.now.board.now self.now.grown) at 0 }

@@ -123,9 +123,10 @@ fn take_leaf<B: BlockSize>(view: &View<'_, B>, plan: &mut [u64], inode: Inode, c
         return c + 1;
     }
     let to = pointer::<B>(view.free, c);
+    let own = view.again();
     let w = width::<B>();
     for j in 0..w {
-        pair(plan, p + j, to + j, leaf_word(view, inode, j));
+        pair(plan, p + j, to + j, leaf_word(&own, inode, j));
     }
     c + 1
 }

@@ -65,10 +65,24 @@ fn beside(first: u64, o: u64, l: u64) -> bool
     requires { first ≤ 4096 }
     ensures { result ≡ (leb (first + 8) o || leb (o + l) first) }
 {
-    first + 8 <= o || (o <= first && l <= first - o)
+    if first + 8 <= o {
+        return true;
+    }
+    o <= first && l <= first - o
 }
 
-// That word. Where all of it is written, or nothing and it is all visible or not at all, it is had at once.
+// That word, byte by byte. At most three words of a block need it: where the new bytes begin and end, and where the visible ones end.
+#[inline(never)]
+fn spliced_bytes(x: u64, n: u64, o: u64, new: &[u8], j: u64) -> u64
+    requires { j ≤ 512 }
+    ensures { result ≡ word_of 8 (spliced_byte x n o new.now j) }
+{
+    u64::from_le_bytes(array::from_fn(|i| spliced_byte(x, n, o, new, j, i as u64)))
+}
+
+// That word. Where all of it is written, or nothing and it is all visible or not at all, it is had at once,
+// without a register saved: so neither of the two is compiled into the loops over a block's words.
+#[inline(never)]
 pub fn spliced(x: u64, n: u64, o: u64, new: &[u8], j: u64) -> u64
     requires { j ≤ 512 }
     ensures { result ≡ word_of 8 (spliced_byte x n o new.now j) }
@@ -88,7 +102,7 @@ pub fn spliced(x: u64, n: u64, o: u64, new: &[u8], j: u64) -> u64
             return word_at(new, d);
         }
     }
-    u64::from_le_bytes(array::from_fn(|i| spliced_byte(x, n, o, new, j, i as u64)))
+    spliced_bytes(x, n, o, new, j)
 }
 
 // Word j of the data block of a tree with `new` written at o.
@@ -165,9 +179,10 @@ pub fn take_data<B: BlockSize>(
         lay_new(plan, p, to, new);
         return c + 1;
     }
+    let own = view.again();
     let w = width::<B>();
     for j in 0..w {
-        pair(plan, p + j, to + j, data_word(view, under.tree, o, new, j));
+        pair(plan, p + j, to + j, data_word(&own, under.tree, o, new, j));
     }
     c + 1
 }

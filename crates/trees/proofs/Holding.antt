@@ -56,3 +56,10 @@ module _ (W : ℕ) (b : List ℕ) (h k n j : ℕ) {s count : ℕ} (es : s ≡ sp
   add {p} {q} {r} ep eq a =
       let e : r ≡ length (child_blocks W b h k n j) = a.is ∙ rw (eq, ep, es) in
       record { is = omega (arith, joined_more, e, c.is); most = omega (arith, es, a.most, c.most) }
+
+  -- or passed over, where it is not live
+  pub skip : 1 < W → n ≤ j * s → Below W b h k n s (j + 1) count
+  skip two l =
+      let z : n - j * span W h ≡ 0 = rw (← es) (omega arith) in
+      let none : length (child_blocks W b h k n j) ≡ 0 = rw (z, blocks_dead W b h (cell W b k j / W)) in
+      record { is = omega (arith, joined_more, none, c.is); most = omega (arith, es, span_pos W (omega arith) h, c.most) }

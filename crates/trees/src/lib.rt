@@ -203,8 +203,11 @@ pub fn held_count<B: BlockSize>(board: &[u64], h: u64, k: u64, n: u64) -> u64
     let w = width::<B>();
     let mut count = 1;
     for j in 0..w {
-        let below = block_of::<B>(cell::<B>(board, k, j));
-        count += held_count::<B>(board, h - 1, below, n.saturating_sub(j * s));
+        let first = j * s;
+        if first < n {
+            let below = block_of::<B>(cell::<B>(board, k, j));
+            count += held_count::<B>(board, h - 1, below, n - first);
+        }
     }
     count
 }

@@ -17,7 +17,7 @@ unfolding tabulate
 loop-j-init g c = sym (laid_none _ _)
 
 pub loop-j-preserved : goal.loop-j-preserved
-loop-j-preserved g c = c.pair.ensures ∙ rw (c.leaf_word.ensures, c.loop-j.invariant) (sym (laid_more _ _ _ _))
+loop-j-preserved g c = c.pair.ensures ∙ rw (c.leaf_word.ensures, c.again-own.ensures.0, c.again-own.ensures.1, c.again-own.ensures.2, c.loop-j.invariant) (sym (laid_more _ _ _ _))
 
 pub returns : goal.returns
 returns g c =

@@ -1,8 +1,5 @@
-use borrow.Author.Rules.{rules}
 use native.Mathlib.Omega.{arith}
-use mathlib.Core.Path.{◌∙◌}
-use Rattle.taking.specs.Taking.{spliced_byte}
-use Rattle.taking.proofs.Splicing.{word_new, word_kept, word_gone, le_word}
+use Rattle.taking.proofs.Splicing.{word_new, word_kept, word_gone}
 use Rattle.taking.proofs.spliced.Goals as goal
 
 pub returns-then-first-n : goal.returns-then-first-n
@@ -19,8 +16,3 @@ pub returns-then-d-new : goal.returns-then-d-new
 returns-then-d-new c =
     let a = c.args in
     word_new a.x a.n a.o a.new.now a.j c.if-o-first.true c.if-d-new.true c.word_at.ensures
-
-pub returns : goal.returns
-returns c =
-    let a = c.args in
-    c.from_le_bytes.ensures ∙ le_word c.from_fn.result (spliced_byte a.x a.n a.o a.new.now a.j) (λ i l. let h = c.from_fn.ensures.items.at i 0 l in search rules)

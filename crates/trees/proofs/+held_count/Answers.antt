@@ -4,6 +4,7 @@ use native.Mathlib.Omega.{arith}
 use Rattle.trees.proofs.Holding
 use Rattle.trees.proofs.Reaching.{lower, two}
 use Rattle.trees.proofs.+held_count.Goals as goal
+use Rattle.trees.proofs.+held_count.Goals.{then-first-n, else-first-n}
 
 -- The measure is the height; the loop has counted the children below j.
 
@@ -24,7 +25,10 @@ loop-j-init g t c = Holding.alone
 
 pub loop-j-preserved : goal.loop-j-preserved
 loop-j-preserved g t c = let a = c.args in
-    Holding.add (2 ^ g.B.BlockSize.BITS) a.board.now (a.h - 1) a.k a.n c.loop-j.j c.span-s.ensures.is c.loop-j.invariant c.cell.ensures c.block_of-below.ensures (rw c.saturating_sub.ensures at c.held_count-count.ensures)
+    elim c.if-first-n.branch [
+      | then-first-n w ↦ rw w.count-is (Holding.add (2 ^ g.B.BlockSize.BITS) a.board.now (a.h - 1) a.k a.n c.loop-j.j c.span-s.ensures.is c.loop-j.invariant w.cell.ensures w.block_of-below.ensures w.held_count-count.ensures)
+      | else-first-n w ↦ rw w.count-is (Holding.skip (2 ^ g.B.BlockSize.BITS) a.board.now (a.h - 1) a.k a.n c.loop-j.j c.span-s.ensures.is c.loop-j.invariant (two c.requires) w.if-first-n.false)
+    ]
 
 pub returns : goal.returns
 returns g t c = let e : c.loop-j.j ≡ c.width-w.result = omega arith in
