@@ -4,6 +4,7 @@
 ghost use Rattle.std.specs.Prelude.{◌≡◌, ◌+◌, ◌*◌, ◌^◌, ◌≤◌, length};
 ghost use Rattle.model.specs.Lists.{tabulate};
 ghost use Rattle.model.specs.Tree.{shown};
+ghost use Rattle.words.specs.Filled.{Filled};
 ghost use Rattle.files.specs.Filling.{Rooted, FillResult};
 
 use trees::root_walk;
@@ -48,7 +49,7 @@ fn copy_words<B: BlockSize>(board: &[u64], k: u64, from: u64, n: usize, out: &mu
 }
 
 // The bytes from byte `from` on of the block where a walk ended, to fill a buffer, whole words where that is all of them.
-fn copy<B: BlockSize>(board: &[u64], end: Option<u64>, from: u64, out: &mut [u8])
+fn copy_piece<B: BlockSize>(board: &[u64], end: Option<u64>, from: u64, out: &mut [u8])
     requires { from ≤ 4096 }
     ensures { out.new ≡ tabulate (length out.old) (λ j. shown (2 ^ B.BITS) board.now end (from + j)) }
 {
@@ -67,6 +68,14 @@ fn copy<B: BlockSize>(board: &[u64], end: Option<u64>, from: u64, out: &mut [u8]
     }
 }
 
+// n of these bytes, to the start of what is left of a read's buffer.
+fn copy<B: BlockSize>(board: &[u64], end: Option<u64>, from: u64, n: usize, out: &mut [u8])
+    requires { (n ≤ length out.old) × (from ≤ 4096) }
+    ensures { Filled (λ j. shown (2 ^ B.BITS) board.now end (from + j)) n out.old out.new }
+{
+    copy_piece::<B>(board, end, from, &mut out[..n]);
+}
+
 // Fills a buffer with the bytes of a file of n bytes, from byte o on, each piece placed after the last, and answers how many there are.
 pub fn fill<B: BlockSize>(board: &[u64], root: u64, n: u64, o: u64, out: &mut [u8]) -> usize
     requires { Rooted B.BITS root n }
@@ -80,7 +89,7 @@ pub fn fill<B: BlockSize>(board: &[u64], root: u64, n: u64, o: u64, out: &mut [u
         let from = at % bytes;
         let len = ((bytes - from) as usize).min(count - done);
         let end = root_walk::<B>(board, root, n, at);
-        copy::<B>(board, end, from, &mut out[done..done + len]);
+        copy::<B>(board, end, from, len, &mut out[done..]);
         done += len;
     }
     count

@@ -108,7 +108,10 @@ fn is_tail<L: Layout>(view: &View<'_, L>, target: Target) -> bool
     }
     let h = low_of::<L>(target.inode.root);
     let k = block_of::<L>(target.inode.root);
-    walk_live(view, h, k, s).is_some()
+    let Some(_) = walk_live(view, h, k, s) else {
+        return false;
+    };
+    true
 }
 
 // The first of ways 4 to 6 whose condition holds.

@@ -1,15 +1,13 @@
+use mathlib.Core.Path.{◌≡◌, refl}
+use Prim.Native.Nat.{ℕ, ◌+◌, ◌^◌}
 use native.Mathlib.Omega.{arith}
 use Rattle.model.specs.Tree.{shown}
 use Rattle.words.proofs.Filling
 use Rattle.files.proofs.Whole
 use Rattle.files.proofs.copy.Goals as goal
 
-pub loop-b-init : goal.loop-b-init
-loop-b-init g c = Filling.none
-
-pub loop-b-preserved : goal.loop-b-preserved
-unfolding shown
-loop-b-preserved g c = Filling.step c.loop-b.invariant (omega arith) (rw c.in-None.is)
-
-pub returns-after-loop-b : goal.returns-after-loop-b
-returns-after-loop-b g c = Whole.full (omega arith) c.loop-b.invariant
+pub returns : goal.returns
+returns g c = let a = c.args in
+    let byte : ℕ → ℕ = λ j. shown (2 ^ g.B.BlockSize.BITS) a.board.now a.end (a.from + j) in
+    let z : 0 + a.n ≡ a.n = omega arith in
+    rw z at (Whole.part {f = byte} {g = byte} Filling.none refl (omega arith) (λ i l. let e : 0 + i ≡ i = omega arith in rw e) c.copy_piece.ensures)
