@@ -16,8 +16,7 @@ use borrow.Author.Tests.{lt-ltb}
 use Rattle.model.specs.declared.Fault.{Fault}
 use Rattle.model.specs.declared.Fault.TheVariants.{End, PlanLength, PairCount, Address}
 use Rattle.model.specs.Lists.{all}
-use Rattle.model.specs.Layout.{Kind}
-use Rattle.model.specs.Layout.{layout_of}
+use Rattle.model.specs.Layout.{Layout}
 use Rattle.model.specs.Board.{greatest}
 use Rattle.model.specs.Store.{Store, is_barrier, paired}
 use Rattle.model.specs.Plan.{Plan, pairs}
@@ -58,25 +57,25 @@ plan_small : (faults : Faults) (ss : List Store) (slice : List ℕ) → length s
 unfolding planned
 plan_small faults ss slice l = pairs_fit faults [] PlanLength slice (length ss) l
 
-module _ (k : Kind) (b slice : List ℕ) {r : Answer} {slice' : List ℕ} (l : length slice < 2 ^ 64) where
-  pub format_small : PlanResult (format (layout_of k) b slice) r slice' → counted r < 2 ^ 63
+module _ (g : Layout) (b slice : List ℕ) {r : Answer} {slice' : List ℕ} (l : length slice < 2 ^ 64) where
+  pub format_small : PlanResult (format g b slice) r slice' → counted r < 2 ^ 63
   unfolding format
-  format_small e = rw e.answer (plan_small (word_count_fault (layout_of k) b) (pairs (format_plan (layout_of k) b)) slice l)
+  format_small e = rw e.answer (plan_small (word_count_fault g b) (pairs (format_plan g b)) slice l)
 
-  pub write_small : (f o : ℕ) (new : List ℕ) → PlanResult (write (layout_of k) b f o new slice) r slice' → counted r < 2 ^ 63
+  pub write_small : (f o : ℕ) (new : List ℕ) → PlanResult (write g b f o new slice) r slice' → counted r < 2 ^ 63
   unfolding write write_from
-  write_small f o new e = let p : Plan = write_plan (layout_of k) (lowest (layout_of k) b) b f o new in rw e.answer (plan_small (write_faults (layout_of k) b f o new p) (pairs p) slice l)
+  write_small f o new e = let p : Plan = write_plan g (lowest g b) b f o new in rw e.answer (plan_small (write_faults g b f o new p) (pairs p) slice l)
 
-  pub length_small : (f n : ℕ) → PlanResult (set_length (layout_of k) b f n slice) r slice' → counted r < 2 ^ 63
+  pub length_small : (f n : ℕ) → PlanResult (set_length g b f n slice) r slice' → counted r < 2 ^ 63
   unfolding set_length
-  length_small f n e = rw e.answer (plan_small (file_faults (layout_of k) b f ++ ((End, ltb (greatest (layout_of k)) n) ∷ [])) (pairs (length_plan (layout_of k) b f n)) slice l)
+  length_small f n e = rw e.answer (plan_small (file_faults g b f ++ ((End, ltb (greatest g) n) ∷ [])) (pairs (length_plan g b f n)) slice l)
 
 pub plan_signed : {p : Planned} {r : Answer} {s : ℤ} {slice' : List ℕ} → SFits w64 s → s ≡ signed r → PlanResult p r slice' → WordsPlan p (to_z w64 (of_z w64 s)) slice'
 plan_signed fits e k = record { answer = as_signed fits e k.answer; plan = k.plan }
 
 -- ---- Perform
 
-pub perform_small : (g : Kind) {b slice b' : List ℕ} {k : ℕ} {r : Answer} → length slice < 2 ^ 64 → PerformResult (layout_of g) b slice k r b' → counted r < 2 ^ 63
+pub perform_small : (g : Layout) {b slice b' : List ℕ} {k : ℕ} {r : Answer} → length slice < 2 ^ 64 → PerformResult g b slice k r b' → counted r < 2 ^ 63
 unfolding perform_answer perform_faults
-perform_small g {b} {slice} {k = k} l e = rw e.answer (pairs_fit (word_count_fault (layout_of g) b)
+perform_small g {b} {slice} {k = k} l e = rw e.answer (pairs_fit (word_count_fault g b)
     ((Address, not (all (λ s. ltb s.at (length b) || is_barrier s) (take k (paired slice)))) ∷ []) PairCount slice k l)

@@ -223,12 +223,12 @@ module _ (W : ℕ) (fresh : ℕ → ℕ) (b b₂ : List ℕ) (c lim : ℕ) where
 
 module _ (W : ℕ) (pos : 0 < W) (b b₂ : List ℕ) (new : List ℕ) (some : 0 < length new) (small : Small new) {fresh : ℕ → ℕ} {lim top : ℕ} (within : Between fresh lim top) (c : ℕ) where
   -- then the tree is changed. k₂ is its block on b₂: what its own pointer leads to there if that is the word replaced, else the old one
-  abbrev Ok : Shadow → ℕ → ℕ → ℕ → ℕ → ℕ → List ℕ → Type 0
-  Ok sh h k n o a given = Committed W fresh b b₂ c lim (length new) sh h k n o a → (k₂ : ℕ) → (sh.at ≡ a → k₂ ≡ get_or b₂ a 0 / W) → (sh.at ≢ a → k₂ ≡ k)
+  abbrev Done : Shadow → ℕ → ℕ → ℕ → ℕ → ℕ → List ℕ → Type 0
+  Done sh h k n o a given = Committed W fresh b b₂ c lim (length new) sh h k n o a → (k₂ : ℕ) → (sh.at ≡ a → k₂ ≡ get_or b₂ a 0 / W) → (sh.at ≢ a → k₂ ≡ k)
       → Changed W b b₂ top h k k₂ n n o new (λ q. used fresh q c (length sh.pages)) (λ q. occ q given)
 
   -- the descent ends at the tree's own pointer
-  stop : (h k n o a : ℕ) → Ok (record { at = a; pages = build W fresh b h k n o new c }) h k n o a (path_blocks W b h k n o (length new))
+  stop : (h k n o a : ℕ) → Done (record { at = a; pages = build W fresh b h k n o new c }) h k n o a (path_blocks W b h k n o (length new))
   stop h k n o a r k₂ own other =
       let len = length_build W pos b fresh h k n o new c in
       rw (own refl, r.value, len)
@@ -239,7 +239,7 @@ module _ (W : ℕ) (pos : 0 < W) (b b₂ : List ℕ) (new : List ℕ) (some : 0 
   -- it goes on below it
   on : (h k n o a : ℕ) (sh : Shadow) (given : List ℕ) → o % span W h + length new ≤ span W h → let s = span W h in let j = o / s in
       (sh.at ≡ W * suc k + j) ⊎ (0 < occ (sh.at / W) (child_blocks W b h (suc k) n j))
-      → Ok sh h (cell W b (suc k) j / W) (n - j * s) (o % s) (W * suc k + j) given → Ok sh (suc h) (suc k) n o a given
+      → Done sh h (cell W b (suc k) j / W) (n - j * s) (o % s) (W * suc k + j) given → Done sh (suc h) (suc k) n o a given
   unfolding cell
   on h k n o a sh given fits spot ih r k₂ own other =
       let s = span W h in
@@ -275,13 +275,13 @@ module _ (W : ℕ) (pos : 0 < W) (b b₂ : List ℕ) (new : List ℕ) (some : 0 
       let s = span W h in
       let j = o / s in
       elim (split (o % s + length new) s) [
-        | inl fits ↦ rw (inside_on W b h k n o (length new) fits) (subst (λ (sh : Shadow). Ok sh (suc h) (suc k) n o a (inside_blocks W b h (cell W b (suc k) j / W) (n - j * s) (o % s) (length new))) (sym (descend_on W fresh b new c h k n o a fits))
+        | inl fits ↦ rw (inside_on W b h k n o (length new) fits) (subst (λ (sh : Shadow). Done sh (suc h) (suc k) n o a (inside_blocks W b h (cell W b (suc k) j / W) (n - j * s) (o % s) (length new))) (sym (descend_on W fresh b new c h k n o a fits))
             (λ r.
             let place = child W pos h o r.under in
             on h k n o a (descend W fresh b h (cell W b (suc k) j / W) (n - j * s) (o % s) new c (W * suc k + j)) (inside_blocks W b h (cell W b (suc k) j / W) (n - j * s) (o % s) (length new)) fits
             (descend_inside W pos fresh b new c h (cell W b (suc k) j / W) (n - j * s) (o % s) (W * suc k + j) (omega (arith, r.within, place.there)) place.inside)
             (descend_changed h (cell W b (suc k) j / W) (n - j * s) (o % s) (W * suc k + j)) r))
-        | inr more ↦ rw (inside_stop W b h k n o (length new) more) (subst (λ (sh : Shadow). Ok sh (suc h) (suc k) n o a (path_blocks W b (suc h) (suc k) n o (length new))) (sym (descend_stop W fresh b new c h k n o a more)) (stop (suc h) (suc k) n o a))
+        | inr more ↦ rw (inside_stop W b h k n o (length new) more) (subst (λ (sh : Shadow). Done sh (suc h) (suc k) n o a (path_blocks W b (suc h) (suc k) n o (length new))) (sym (descend_stop W fresh b new c h k n o a more)) (stop (suc h) (suc k) n o a))
       ]
 
 -- ---- single word: the word is one of a data block

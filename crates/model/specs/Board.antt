@@ -97,7 +97,7 @@ module _ (g : Layout) (b : List ℕ) where
   unfoldable pub contents : ℕ → List ℕ
   contents f = tabulate (size f) (λ i. shown g.words b (file_walk f i) (i % span g.words 0))
 
-  -- *The walk to a byte* as a call, which takes any board and any file number. *Some number 0 means null: a hole, all zeros*, here also where a board
+  -- *The walk to a byte* as a call, which takes any board and any file number. *Block number 0 means null: a hole, all zeros*, here also where a board
   -- is so short or damaged that block 0 would be its trailer, its inode pointer block or a leaf. First the leaf of file f
   unfoldable pub linked_leaf : ℕ → ℕ
   linked_leaf f = link g.words b (link g.words b (block_count - 1) 0 / g.words) (f / g.inodes) / g.words

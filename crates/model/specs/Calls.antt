@@ -63,7 +63,7 @@ module _ (g : Layout) (b : List ℕ) where
   unfoldable pub visited : ℕ → ℕ → ℕ → ℕ
   visited f o l = root_visited g.words b (root g b f) (size g b f) o l
 
-  -- of a read: the bytes that it counts. *Err: as before, with count 0*
+  -- of a read: the bytes that it counts. *Refused: as before, with count 0*
   unfoldable pub read_visited : ℕ → ℕ → List ℕ → ℕ
   read_visited f o out = unless_refused (read_answer f o out) (visited f o (read_count f o out)) 0
 

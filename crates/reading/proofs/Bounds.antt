@@ -11,7 +11,7 @@ use borrow.Author.Tests.{lt-ltb, le-ltb}
 use Rattle.model.specs.Lists.{cons_if, pick_from, member}
 use Rattle.model.specs.Layout.{Kind}
 use Rattle.model.specs.Layout.{House, Published}
-use Rattle.model.specs.Layout.{house, layout_of, files}
+use Rattle.model.specs.Layout.{Layout, house, layout_of, files}
 use Rattle.model.specs.Tree.{span, cell, link, walk}
 use Rattle.model.specs.Board.{root_walk, greatest, block_count, size, linked_leaf, linked_word, walk_to, live_blocks, free}
 use Rattle.model.specs.Answers.{Faults, answered, counted, Answer}
@@ -59,11 +59,11 @@ unfolding block_count
 blocks_small House b h = omega arith
 blocks_small Published b h = omega arith
 
-module _ (k : Kind) (b : List ℕ) {r : Answer} where
-  pub check_small : r ≡ check_answer (layout_of k) b → counted r < 2 ^ 63
-  unfolding check_answer
-  check_small e = rw e (omega (arith, counted_most (board_faults (layout_of k) b) 0))
+pub check_small : (g : Layout) (b : List ℕ) {r : Answer} → r ≡ check_answer g b → counted r < 2 ^ 63
+unfolding check_answer
+check_small g b e = rw e (omega (arith, counted_most (board_faults g b) 0))
 
+module _ (k : Kind) (b : List ℕ) {r : Answer} where
   pub free_small : length b < 2 ^ 64 → r ≡ free_count_answer (layout_of k) b → counted r < 2 ^ 63
   unfolding free_count_answer free
   free_small h e =

@@ -12,7 +12,7 @@ overflow_cast-result c = done_fits c.requires c.in-Ok.is
 pub overflow_cast-result-in-Err : goal.overflow_cast-result-in-Err
 overflow_cast-result-in-Err c = record { sfits = refused_small _ c.from.ensures }
 
--- whichever is taken from the other, so that a wrong sign is refused by `returns-in-Refused`
+-- whichever is taken from the other, so that a wrong sign is refused by `returns-in-Err`
 pub overflow_sub-result : goal.overflow_sub-result
 overflow_sub-result c = let s = refused_small _ c.from.ensures in simp (to_z_pos w64 s, +ℤ_idl) (omega (arith, s, negated_fits _ s))
 
